@@ -144,6 +144,17 @@ module _ (types : List TypeDef) (down : GoesDown types) (id : TypeId) (entry : T
   unfolding free_words_code
   free_words_flags_code members e = made_by_kind free_words_leaf free_words_kind types id entry (kind.Flags members) down at e
 
+  -- no code is made so far for what has cases
+  pub free_words_cases_code : (k : TypeDefKind) → entry.kind ≡ k → has_cases k ≡ true → free_words_code types (wit.Id id) ≡ []
+  unfolding free_words_code
+  free_words_cases_code k e has = made_by_kind free_words_leaf free_words_kind types id entry k down at e ∙ by_kind k has
+    where
+      by_kind : (k : TypeDefKind) → has_cases k ≡ true → free_words_kind id.0 k (map (free_words_code types) (members_of k)) ≡ []
+      by_kind (kind.Variant members) h = refl
+      by_kind (kind.Option ty) h = refl
+      by_kind (kind.Result ok err) h = refl
+      by_kind _ h = absurd cc
+
   pub free_words_record_code : (members : List Field) → entry.kind ≡ kind.Record members → free_words_code types (wit.Id id) ≡ each (λ n ty. free_words_code types ty) 0 (map (λ f. f.ty) members)
   unfolding free_words_code
   free_words_record_code members e =

@@ -17,7 +17,9 @@ pub mod Runs
 pub mod SaysTypes
 pub mod ScalarRanges
 pub mod SendSteps
+pub mod Serving
 pub mod Taken
 pub mod Variants
 pub mod WordBits
+pub mod WordCounts
 pub mod WordRanges

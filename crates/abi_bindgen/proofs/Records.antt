@@ -1,9 +1,11 @@
 -- Aliases, records, tuples, enums and flags of the table, and the types of their parts.
-use Rattle.std.proofs.Common.{◌≡◌, ℕ, zero, suc, ◌+◌, ◌≤◌, ◌<◌, true, Bool, ◌&&◌, List, [], ◌∷◌, length, map, drop, get_or, Option, Some, refl, sym, ap, ap₂, ◌∙◌, arith}
+use Rattle.std.proofs.Common.{◌≡◌, ℕ, zero, suc, ◌+◌, ◌≤◌, ◌<◌, ◌^◌, true, Bool, ◌&&◌, List, [], ◌∷◌, length, map, drop, get_or, Option, Some, refl, sym, ap, ap₂, ◌∙◌, arith}
 use Rattle.std.specs.List.{slice_get, list_all}
 use Rattle.std.proofs.lemmas.Option.{slice_get-get_or}
 use Rattle.std.proofs.lemmas.List.{drop_more, length-map}
 use Rattle.std.proofs.lemmas.Bool.{and_parts}
+use Rattle.wit_model.specs.WellFormed.{IsWellFormed}
+use Rattle.wit_model.specs.declared.resolve.Resolve.{Resolve}
 use Rattle.wit_model.specs.declared.types.Field.{Field}
 use Rattle.wit_model.specs.declared.types.Member.{Member}
 use Rattle.wit_model.specs.declared.types.TypeDef.{TypeDef}
@@ -12,11 +14,14 @@ use Rattle.wit_model.specs.declared.types.TypeDefKind.TheVariants as kind
 use Rattle.wit_model.specs.declared.types.WitType.{WitType}
 use Rattle.wit_model.specs.Parts.{parts}
 use Rattle.wit_model.specs.TypeOrder.{GoesDown, payload_below, parts_below, type_below}
+use Rattle.wit_layout.proofs.FillSteps.{kind_short}
+use Rattle.wit_layout.proofs.PartSteps.{parts_short}
 use Rattle.wit_layout.proofs.FlattenSteps.{part_in_table, part_rank, payload_rank_below, rank}
 use Rattle.wrapper_meaning.specs.Shape.{bare, payloads_in, shape_at, shape_by, shape_of, shapes}
 use Rattle.wrapper_meaning.specs.Shape.Shape.{cases, fields, flags, tuple}
 use Rattle.wrapper_meaning.proofs.ShapeIsByKind.{shape_is_by_kind}
 use Rattle.wrapper_meaning.proofs.Lists.{some_same}
+use Rattle.abi_bindgen.specs.HasList.{IsKindOf}
 use Rattle.abi_bindgen.specs.Instructions.{IsRecord, field_shapes, shapes_of}
 use Rattle.abi_bindgen.specs.Parts.{count}
 use Rattle.wit_model.proofs.BelowLemmas.{payload_below_more}
@@ -134,3 +139,10 @@ type_ranked bound ty h = payload_rank_below bound (Some ty) h
 pub type_below_table : (bound n : ℕ) (ty : WitType) → type_below bound ty ≡ true → bound < n → type_below n ty ≡ true
 unfolding payload_below
 type_below_table bound n ty h l = payload_below_more bound n (Some ty) (omega (arith, l)) h
+
+-- the check of a table counts the parts of a tuple
+pub tuple_short : (r : Resolve) → IsWellFormed r → (id : ℕ) (members : List WitType) → IsKindOf r.types id (kind.Tuple members) → length members < 2 ^ 32
+unfolding parts
+tuple_short r well id members here =
+    let short = parts_short here.entry.kind (kind_short r well.numbered id here.entry here.stands) in
+    omega (arith, short, ap (λ (k : TypeDefKind). length (parts k)) here.kind, length-map members (λ (ty : WitType). Some ty))

@@ -29,6 +29,8 @@ pub mod Requested
 pub mod ScalarTouches
 pub mod Sends
 pub mod Sent
+pub mod Served
 pub mod SlotCasts
 pub mod Touches
 pub mod Turns
+pub mod WordCount

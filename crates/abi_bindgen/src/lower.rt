@@ -19,13 +19,15 @@ ghost use Rattle.abi_bindgen.specs.HasList.{IsKindOf};
 ghost use Rattle.abi_bindgen.specs.Instructions.{IsSide, has_cases, shapes_of};
 ghost use Rattle.abi_bindgen.specs.Lowers.{LowersAll, LowersFlat};
 ghost use Rattle.abi_bindgen.specs.Sends.{Sends};
+ghost use Rattle.abi_bindgen.specs.Served.{Serves, ServesAll};
 ghost use Rattle.abi_bindgen.specs.SlotCasts.{FitIn};
+ghost use Rattle.abi_bindgen.specs.WordCount.{word_count, word_counts};
 
 use crate::bindgen::{Bindgen, Operand};
 use crate::casts::{cast_words, zero_words};
 use crate::instruction::Instruction;
 use crate::lower::leaf::{lower_by, scalar_lowering};
-use crate::lower::variants::{MOST_CASES, case_lowering, close_case, kind_payloads, lower_bare};
+use crate::lower::variants::{case_lowering, close_case, kind_payloads, lower_bare};
 use crate::parts::{field_types, part_count};
 use crate::sending::{push_copies, send_one};
 use std::alloc::Global;
@@ -34,9 +36,9 @@ use wit_model::{Field, List, OutOfMemory, Resolve, TypeDefKind, TypeId, WasmType
 
 /// The core words of the value that an operand denotes, after `lower_flat` of wit-bindgen-core.
 ///
-/// Without `realloc` the value is lent, and with it given away. So far it is a scalar, a text, an enum or flags, or a record, a tuple,
-/// a variant, an option or a result of such, also through aliases. Of a type that holds any other, and of a variant of more than
-/// sixteen words, the answer is `OutOfMemory`, as where memory is wanting.
+/// Without `realloc` the value is lent, and with it given away. It is of sixteen words at most. So far it is a scalar, a text, an enum or flags,
+/// or a record, a tuple, a variant, an option or a result of such, also through aliases. The answer is `OutOfMemory` where there is no memory
+/// for the code, or for the operands.
 pub fn lower_flat<B: Bindgen>(
     alloc: Global,
     resolve: &Resolve,
@@ -49,6 +51,8 @@ pub fn lower_flat<B: Bindgen>(
     requires down { GoesDown resolve.now.types }
     requires below { IsTrue (type_below (length resolve.now.types) ty.now) }
     requires side { IsSide B.meaning realloc bindgen.old }
+    requires serves { Serves (shape_of resolve.now.types ty.now) }
+    requires few { word_count resolve.now.types ty.now ≤ 16 }
     ensures lowers { IfOk result (λ os. LowersFlat B.meaning realloc (shape_of resolve.now.types ty.now) value os bindgen.old bindgen.new) }
     ensures sends { OnOk result (Sends B.meaning resolve.now.types (lower_code resolve.now.types realloc ty.now) bindgen.old bindgen.new) }
 {
@@ -70,6 +74,8 @@ fn lower_type<B: Bindgen>(
     requires down { GoesDown resolve.now.types }
     requires below { IsTrue (type_below (length resolve.now.types) ty) }
     requires side { IsSide B.meaning realloc bindgen.old }
+    requires serves { Serves (shape_of resolve.now.types ty) }
+    requires few { word_count resolve.now.types ty ≤ 16 }
     ensures lowers { IfOk result (λ os. LowersFlat B.meaning realloc (shape_of resolve.now.types ty) value os bindgen.old bindgen.new) }
     ensures sends { OnOk result (Sends B.meaning resolve.now.types (lower_code resolve.now.types realloc ty) bindgen.old bindgen.new) }
 {
@@ -84,7 +90,7 @@ fn lower_type<B: Bindgen>(
             Ok(words)
         }
         WitType::Id(id) => lower_id(alloc, resolve, bindgen, value, id, realloc),
-        _ => Err(OutOfMemory),
+        _ => unreachable!(),
     }
 }
 
@@ -102,6 +108,8 @@ fn lower_id<B: Bindgen>(
     requires down { GoesDown resolve.now.types }
     requires within { id.0 < length resolve.now.types }
     requires side { IsSide B.meaning realloc bindgen.old }
+    requires serves { Serves (shape_at resolve.now.types id.0) }
+    requires few { word_count resolve.now.types (Id id) ≤ 16 }
     ensures lowers { IfOk result (λ os. LowersFlat B.meaning realloc (shape_at resolve.now.types id.0) value os bindgen.old bindgen.new) }
     ensures sends { OnOk result (Sends B.meaning resolve.now.types (lower_code resolve.now.types realloc (Id id)) bindgen.old bindgen.new) }
 {
@@ -119,10 +127,7 @@ fn lower_id<B: Bindgen>(
         TypeDefKind::Tuple(members) => {
             lower_tuple(alloc, resolve, bindgen, value, id, members, realloc)
         }
-        TypeDefKind::Enum(members) => {
-            if members.len() > MOST_CASES {
-                return Err(OutOfMemory);
-            }
+        TypeDefKind::Enum(_) => {
             let words = lower_by(alloc, resolve, bindgen, value, Instruction::EnumLower(id))?;
             Ok(words)
         }
@@ -135,7 +140,7 @@ fn lower_id<B: Bindgen>(
         TypeDefKind::Result(_, _) => {
             lower_variant(alloc, resolve, bindgen, value, id, kind, realloc)
         }
-        _ => Err(OutOfMemory),
+        _ => unreachable!(),
     }
 }
 
@@ -154,6 +159,8 @@ fn lower_record<B: Bindgen>(
     requires down { GoesDown resolve.now.types }
     requires here { IsKindOf resolve.now.types id.0 (kind.Record members.now) }
     requires side { IsSide B.meaning realloc bindgen.old }
+    requires serves { Serves (shape_at resolve.now.types id.0) }
+    requires few { word_count resolve.now.types (Id id) ≤ 16 }
     ensures lowers { IfOk result (λ os. LowersFlat B.meaning realloc (shape_at resolve.now.types id.0) value os bindgen.old bindgen.new) }
     ensures sends { OnOk result (Sends B.meaning resolve.now.types (lower_code resolve.now.types realloc (Id id)) bindgen.old bindgen.new) }
 {
@@ -180,11 +187,13 @@ fn lower_tuple<B: Bindgen>(
     requires down { GoesDown resolve.now.types }
     requires here { IsKindOf resolve.now.types id.0 (kind.Tuple members.now) }
     requires side { IsSide B.meaning realloc bindgen.old }
+    requires serves { Serves (shape_at resolve.now.types id.0) }
+    requires few { word_count resolve.now.types (Id id) ≤ 16 }
     ensures lowers { IfOk result (λ os. LowersFlat B.meaning realloc (shape_at resolve.now.types id.0) value os bindgen.old bindgen.new) }
     ensures sends { OnOk result (Sends B.meaning resolve.now.types (lower_code resolve.now.types realloc (Id id)) bindgen.old bindgen.new) }
 {
     let tys = members.as_slice();
-    let inst = Instruction::TupleLower(part_count(tys)?);
+    let inst = Instruction::TupleLower(part_count(tys));
     let parts = lower_by(alloc, resolve, bindgen, value, inst)?;
     let at = id.0 as usize;
     let words = lower_parts(alloc, resolve, bindgen, at, tys, &parts, realloc)?;
@@ -207,6 +216,8 @@ fn lower_variant<B: Bindgen>(
     requires here { IsKindOf resolve.now.types id.0 kind.now }
     requires cases { has_cases kind.now ≡ true }
     requires side { IsSide B.meaning realloc bindgen.old }
+    requires serves { Serves (shape_at resolve.now.types id.0) }
+    requires few { word_count resolve.now.types (Id id) ≤ 16 }
     ensures lowers { IfOk result (λ os. LowersFlat B.meaning realloc (shape_at resolve.now.types id.0) value os bindgen.old bindgen.new) }
     ensures sends { OnOk result (Sends B.meaning resolve.now.types (lower_code resolve.now.types realloc (Id id)) bindgen.old bindgen.new) }
 {
@@ -234,6 +245,8 @@ fn lower_cases<B: Bindgen>(
     requires cases { shape_at resolve.now.types id.0 ≡ cases (payloads_in (shapes resolve.now.types) payloads.now) }
     requires below { list_all (λ payload. payload_below id.0 payload) payloads.now ≡ true }
     requires side { IsSide B.meaning realloc bindgen.old }
+    requires serves { Serves (shape_at resolve.now.types id.0) }
+    requires sixteen { word_count resolve.now.types (Id id) ≤ 16 }
     ensures words { IfOk result (λ n. n ≡ case_words resolve.now.types payloads.now) }
     ensures few { OnOk result (length payloads.now ≤ 2 ^ 31) }
     ensures lowers { OnOk result (LowersCases B.meaning realloc (payloads_in (shapes resolve.now.types) payloads.now) 0 (shared_slots resolve.now.types payloads.now) bindgen.old bindgen.new) }
@@ -241,9 +254,6 @@ fn lower_cases<B: Bindgen>(
         (each (λ n payload. lower_case resolve.now.types (shared_slots resolve.now.types payloads.now) n payload (option_map (lower_code resolve.now.types realloc) payload)) 0 payloads.now) bindgen.old bindgen.new) }
 {
     let flat = flat_types(resolve, &WitType::Id(id));
-    if flat.more || payloads.len() > MOST_CASES {
-        return Err(OutOfMemory);
-    }
     let slots = &flat.words[1..flat.count as usize];
     for i in 0..payloads.len() {
         lower_case(alloc, resolve, bindgen, i, payloads[i], slots, realloc)?;
@@ -269,6 +279,8 @@ fn lower_case<B: Bindgen>(
     requires few { number < 2 ^ 31 }
     requires fits { FitIn (payload_words resolve.now.types payload) slots.now }
     requires side { IsSide B.meaning realloc bindgen.old }
+    requires serves { Serves (payload_in (shapes resolve.now.types) payload) }
+    requires sixteen { length slots.now ≤ 16 }
     ensures lowers { OnOk result (LowersCases B.meaning realloc (more (payload_in (shapes resolve.now.types) payload) none) number slots.now bindgen.old bindgen.new) }
     ensures sends { OnOk result (Sends B.meaning resolve.now.types (lower_case resolve.now.types slots.now number payload (option_map (lower_code resolve.now.types realloc) payload)) bindgen.old bindgen.new) }
 {
@@ -298,14 +310,13 @@ fn lower_payload<B: Bindgen>(
     requires few { number < 2 ^ 31 }
     requires fits { FitIn (payload_words resolve.now.types (Some ty)) slots.now }
     requires side { IsSide B.meaning realloc bindgen.old }
+    requires serves { Serves (shape_of resolve.now.types ty) }
+    requires sixteen { length slots.now ≤ 16 }
     ensures lowers { OnOk result (LowersCases B.meaning realloc (more (shape_of resolve.now.types ty) none) number slots.now bindgen.old bindgen.new) }
     ensures sends { OnOk result (Sends B.meaning resolve.now.types (lower_case resolve.now.types slots.now number (Some ty) (Some (lower_code resolve.now.types realloc ty))) bindgen.old bindgen.new) }
 {
     let flat = flat_types(resolve, &ty);
     let count = flat.count as usize;
-    if flat.more {
-        return Err(OutOfMemory);
-    }
     let types = &flat.words[..count];
     bindgen.push_block()?;
     let name = Instruction::VariantPayloadName;
@@ -336,6 +347,8 @@ fn lower_parts<B: Bindgen>(
     requires below { list_all (λ ty. type_below at ty) tys.now ≡ true }
     requires enough { length parts.now ≡ length tys.now }
     requires side { IsSide B.meaning realloc bindgen.old }
+    requires serves { ServesAll (shapes_of resolve.now.types tys.now) }
+    requires few { word_counts resolve.now.types tys.now ≤ 16 }
     ensures lowers { IfOk result (λ os. LowersAll B.meaning realloc (shapes_of resolve.now.types tys.now) parts.now os bindgen.old bindgen.new) }
     ensures sends { OnOk result (Sends B.meaning resolve.now.types (each (λ n ty. lower_code resolve.now.types realloc ty) 0 tys.now) bindgen.old bindgen.new) }
 {

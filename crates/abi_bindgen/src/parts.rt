@@ -1,6 +1,6 @@
 //! The types of the parts of a type.
 
-ghost use Rattle.std.specs.Prelude.{◌≡◌, length, map, IfOk};
+ghost use Rattle.std.specs.Prelude.{◌≡◌, ◌<◌, ◌^◌, length, map, IfOk};
 
 use std::alloc::Global;
 use wit_model::{Field, List, OutOfMemory, Param, WitType};
@@ -27,18 +27,10 @@ pub fn param_types(alloc: Global, params: &[Param]) -> Result<List<WitType>, Out
     Ok(tys)
 }
 
-/// How many there are. Of 2^32 or more the answer is `OutOfMemory`.
-pub fn part_count(tys: &[WitType]) -> Result<u32, OutOfMemory>
-    ensures { IfOk result (λ n. n ≡ length tys.now) }
+/// How many there are, of fewer than 2^32.
+pub fn part_count(tys: &[WitType]) -> u32
+    requires short { length tys.now < 2 ^ 32 }
+    ensures { result ≡ length tys.now }
 {
-    let n = numbered(tys.len())?;
-    Ok(n)
-}
-
-/// A number as a `u32`. Of 2^32 or more the answer is `OutOfMemory`.
-pub fn numbered(n: usize) -> Result<u32, OutOfMemory>
-    ensures { IfOk result (λ k. k ≡ n) }
-{
-    let k = u32::try_from(n).map_err(|_| OutOfMemory)?;
-    Ok(k)
+    tys.len() as u32
 }

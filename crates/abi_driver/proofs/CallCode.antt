@@ -1,5 +1,6 @@
 -- What is sent for the arguments and the result of a call, by how they pass.
-use Rattle.std.proofs.Common.{◌≡◌, ℕ, suc, ◌+◌, Bool, true, false, if◌then◌else◌, MatchBool, List, [], ◌∷◌, ◌++◌, length, drop, Option, None, Some, refl, sym, ap, ◌∙◌, arith}
+use Rattle.std.proofs.Common.{◌≡◌, ℕ, suc, ◌+◌, ◌≤◌, Bool, true, false, if◌then◌else◌, MatchBool, List, [], ◌∷◌, ◌++◌, length, drop, Option, None, Some, refl, sym, ap, ◌∙◌, arith}
+use Rattle.std.proofs.lemmas.Bool.{ltb-false}
 use Rattle.std.specs.Prelude.{option_to_list}
 use Rattle.std.specs.Option.{option_map}
 use Rattle.wit_model.specs.declared.types.TypeDef.{TypeDef}
@@ -72,6 +73,19 @@ module _ {Self Operand : Type 0} (m : Meaning Self Operand) (types : List TypeDe
       by : (c : Bool) → MatchBool c (StoresAnswer m t answer given old new) (LowersAnswer m (Some t) answer given old new) → length given ≡ length (if c then wasm.Pointer ∷ [] else result_words (Some t))
       by true h = ap length h.gives
       by false h = h.2.fits
+
+-- each is one at most
+
+pub few_given : {A : Type 0} (r : Option A) → length (option_to_list r) ≤ 1
+few_given None = omega arith
+few_given (Some t) = omega arith
+
+pub few_words : (r : Option Shape) → length (core_results GuestExport (result_words r)) ≤ 1
+few_words r = by (is_indirect r) refl
+  where
+    by : (c : Bool) → is_indirect r ≡ c → length (if c then wasm.Pointer ∷ [] else result_words r) ≤ 1
+    by true e = omega arith
+    by false e = let one = ltb-false 1 (length (result_words r)) e in omega (arith, one)
 
 -- 3. A result that passes by the area, and one that is a word
 

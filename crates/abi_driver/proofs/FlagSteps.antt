@@ -4,7 +4,6 @@ use Rattle.std.specs.List.{AllByRecursion}
 use Rattle.std.proofs.Math.Pow.{mod-mod-pow}
 use Rattle.std.proofs.lemmas.Bool.{leb-true}
 use Rattle.std.proofs.lemmas.Int.{ints}
-use Rattle.std.proofs.lemmas.List.{length-replicate}
 use mathlib.Core.Logic.{inl, inr}
 use Rattle.wit_model.specs.Size.{bytes_at}
 use Rattle.wit_model.specs.declared.name.TypeId.{TypeId}
@@ -42,6 +41,7 @@ use Rattle.abi_driver.proofs.NumberWords.{AreApart, LoadedOn, StoredBack, kept_b
 use Rattle.abi_driver.proofs.PartOffsets.{beyond_at}
 use Rattle.abi_bindgen.proofs.Runs.{adds_both}
 use Rattle.abi_bindgen.proofs.SaysTypes.{words_typed}
+use Rattle.abi_bindgen.proofs.WordCounts.{length_words}
 use Rattle.abi_driver.proofs.Storing.{stored_in, written_in}
 use Rattle.abi_driver.proofs.TakingOver.{took_none}
 
@@ -51,7 +51,7 @@ abbrev extent_by : ℕ → Bool → Bool → Extent
 extent_by n a b = if a then extent 0 1 else (if b then extent 1 2 else extent 2 (4 * flag_words n))
 
 -- what is so for each of the three
-by_three : (P : Extent → Type 0) (n : ℕ) → (nat_le n 8 ≡ true → P (extent 0 1)) → (nat_le n 16 ≡ true → P (extent 1 2)) → P (extent 2 (4 * flag_words n)) → P (flags_extent n)
+pub by_three : (P : Extent → Type 0) (n : ℕ) → (nat_le n 8 ≡ true → P (extent 0 1)) → (nat_le n 16 ≡ true → P (extent 1 2)) → P (extent 2 (4 * flag_words n)) → P (flags_extent n)
 by_three P n few some many = go (nat_le n 8) (nat_le n 16) refl refl
   where
     go : (a b : Bool) → nat_le n 8 ≡ a → nat_le n 16 ≡ b → P (extent_by n a b)
@@ -65,9 +65,6 @@ flags_grain_small n = by_three (λ e. e.grain ≤ 2) n (λ h. omega arith) (λ h
 pub flags_apart : (n : ℕ) → AreApart (flags_extent n).grain (flag_words n)
 flags_apart n =
     by_three (λ e. AreApart e.grain (flag_words n)) n (λ h. let l = leb-true n 8 h in inr (omega (arith, l))) (λ h. let l = leb-true n 16 h in inr (omega (arith, l))) (inl refl)
-
-pub length_words : (n : ℕ) → length (words_of_flags n) ≡ flag_words n
-length_words n = length-replicate (flag_words n) wasm.I32
 
 -- 2. Words of 32 bits
 

@@ -1,6 +1,8 @@
--- The blocks of values that words represent are freed: of scalars, enums and flags, which have none, of texts, and of parts.
-use Rattle.std.proofs.Common.{◌≡◌, ℕ, suc, ◌+◌, ◌≤◌, List, [], ◌∷◌, ◌++◌, length, drop, Some, refl, sym, ap, ◌∙◌, subst, arith, append_assoc, append-nil}
-use Rattle.std.proofs.lemmas.List.{drop_all, length-append, length-map}
+-- The blocks of values that words represent are freed: of scalars, enums, flags and some cases, which have none, of texts, and of parts.
+use Rattle.std.proofs.Common.{◌≡◌, ℕ, zero, suc, ◌+◌, ◌≤◌, ◌<◌, false, List, [], ◌∷◌, ◌++◌, length, take, drop, get_or, Some, refl, sym, ap, ◌∙◌, subst, arith, append_assoc, append-nil}
+use Rattle.std.proofs.lemmas.Bool.{or_parts, true≢false}
+use Rattle.std.proofs.lemmas.List.{drop-drop, drop_all, length-append, length-drop, length-map, length-take-le, take-append-drop}
+use mathlib.Core.Logic.{inl, inr}
 use Rattle.wit_model.specs.declared.types.TypeDef.{TypeDef}
 use Rattle.wit_model.specs.declared.types.WitType.{WitType}
 use Rattle.wit_layout.specs.Extent.{flag_words}
@@ -8,12 +10,14 @@ use Rattle.wit_layout.specs.Flat.{flatten_record, flatten_type}
 use Rattle.wrapper_data.specs.declared.block.Block.{Block}
 use Rattle.wrapper_data.specs.declared.word.Word.{Word}
 use Rattle.wrapper_data.specs.declared.word.Word.TheVariants as core
-use Rattle.wrapper_meaning.specs.Direction.{give}
+use Rattle.wrapper_meaning.specs.Direction.{Direction, give}
+use Rattle.wrapper_meaning.specs.Kinds.{has_list, have_list}
 use Rattle.wrapper_meaning.specs.Layout.{layout, layouts}
-use Rattle.wrapper_meaning.specs.AsWords.{Says}
+use Rattle.wrapper_meaning.specs.AsWords.{CaseSays, PartsSay, Says}
 use Rattle.wrapper_meaning.specs.Shape.{Shape, Shapes, bare, shape_of}
 use Rattle.wrapper_meaning.specs.Shape.Shape.{cases, flags, scalar, text, fields, tuple}
-use Rattle.wrapper_meaning.specs.Value.{Value}
+use Rattle.wrapper_meaning.specs.Value.{Case, Parts, Value}
+use Rattle.wrapper_meaning.specs.Words.{read_slots}
 use Rattle.wrapper_meaning.specs.Shape.Shapes.{none, more}
 use Rattle.abi_bindgen.specs.declared.instruction.Instruction.{Instruction}
 use Rattle.abi_bindgen.specs.declared.instruction.Instruction.TheVariants.{GuestDeallocateString}
@@ -24,15 +28,45 @@ use Rattle.abi_bindgen.specs.Laws.{At, Facts, Sound, core_data, ofs}
 use Rattle.abi_bindgen.specs.Lifts.{MayTake}
 use Rattle.abi_bindgen.specs.Meaning.{Meaning, word}
 use Rattle.abi_bindgen.specs.Memory.{freeing}
+use Rattle.abi_bindgen.specs.Served.{AreFreedByWords, IsFreedByWords, Serves, ServesAll}
 use Rattle.abi_bindgen.proofs.BareCases.{no_slots, none_said}
 use Rattle.abi_driver.proofs.Done.{does_done}
-use Rattle.abi_driver.proofs.FlagSteps.{length_words}
 use Rattle.abi_driver.proofs.Freeing.{freed_both, frees_text, may_after}
 use Rattle.abi_driver.proofs.LiftSteps.{lifted_type}
 use Rattle.abi_bindgen.proofs.Runs.{adds_both, adds_same, core_append, ofs_append}
 use Rattle.abi_driver.proofs.SaysLength.{says_length}
 use Rattle.abi_driver.proofs.TakingOver.{may_first}
+use Rattle.abi_bindgen.proofs.WordCounts.{length_words}
+use Rattle.wrapper_meaning.proofs.NoLists.{no_blocks}
 use Rattle.wrapper_meaning.proofs.PostReturn.{total-append}
+
+-- what has no text has no blocks, of what is served
+module _ (w : ℕ) (dir : Direction) where
+  mutual
+    says_none : (t : Shape) → Serves t → has_list t ≡ false → (v : Value t) (words : List Word) (own : List Block) → Says w dir t v words own → own ≡ []
+    says_none (scalar s) served lacks v words own says = says.3
+    says_none text served lacks v words own says = absurd (true≢false lacks)
+    says_none (fields ts) served lacks v words own says = parts_none ts served lacks v words own says
+    says_none (tuple ts) served lacks v words own says = parts_none ts served lacks v words own says
+    says_none (cases ts) served lacks v words own says = case_none ts served.1 lacks v says.0 own says.3
+    says_none (flags n) served lacks v words own says = says.2
+    says_none _ served lacks v words own says = elim served [ ]
+
+    parts_none : (ts : Shapes) → ServesAll ts → have_list ts ≡ false → (v : Parts ts) (words : List Word) (own : List Block) → PartsSay w dir ts v words own → own ≡ []
+    parts_none none served lacks v words own says = says.1
+    parts_none (more t ts) served lacks v words own (front, back, first, rest, one, others, is, all) =
+        let each = or_parts (has_list t) (have_list ts) lacks in
+        no_blocks own first rest all (says_none t served.0 each.0 v.0 front first one) (parts_none ts served.1 each.1 v.1 back rest others)
+
+    case_none : (ts : Shapes) → ServesAll ts → have_list ts ≡ false → (c : Case ts) (shared : List Word) (own : List Block) → CaseSays w dir ts c shared own → own ≡ []
+    case_none none served lacks c shared own says = elim c [ ]
+    case_none (more t ts) served lacks (inl v) shared own says = says_none t served.0 (or_parts (has_list t) (have_list ts) lacks).0 v (read_slots w (flatten_type (layout t)) shared) own says.0
+    case_none (more t ts) served lacks (inr c) shared own says = case_none ts served.1 (or_parts (has_list t) (have_list ts) lacks).1 c shared own says
+
+pub part_freed : (types : List TypeDef) (tys : List WitType) (i : ℕ) (d : WitType) → AreFreedByWords (shapes_of types tys) → i < length tys → IsFreedByWords (shape_of types (get_or tys i d))
+part_freed types [] i d all short = absurd (omega (arith, short))
+part_freed types (ty ∷ tys) zero d all short = all.0
+part_freed types (ty ∷ tys) (suc i) d all short = part_freed types tys i d all.1 (omega (arith, short))
 
 module _ {Self Operand : Type 0} (m : Meaning Self Operand) (sound : Sound m) (types : List TypeDef) where
   -- values without blocks are freed by no code
@@ -51,22 +85,38 @@ module _ {Self Operand : Type 0} (m : Meaning Self Operand) (sound : Sound m) (t
     );
   }
 
-  -- so many words from a place on were passed over
-  abbrev pub Passed : (words : List Operand) → (at next count : ℕ) → Type 0
-  Passed words at next count = (used : List Operand) × (drop at words ≡ used ++ drop next words) × (length used ≡ count)
+  -- what stands for a value of a type, by the words from a place on
 
-  pub scalar_passed : (ty : WitType) (i : Instruction) (a : Self) (words : List Operand) (at next : ℕ) → lifting ty ≡ Some i → Passed words at next 1 → (used : List Operand) × (drop at words ≡ used ++ drop next words) × FreesFlat m (shape_of types ty) used a a
-  scalar_passed ty i a words at next is h =
+  abbrev pub Freed : Shape → (words : List Operand) → (at next : ℕ) → (a b : Self) → Type 0
+  Freed t words at next a b = (used : List Operand) × (drop at words ≡ used ++ drop next words) × FreesFlat m t used a b
+
+  abbrev pub AllFreed : Shapes → (words : List Operand) → (at next : ℕ) → (a b : Self) → Type 0
+  AllFreed ts words at next a b = (used : List Operand) × (drop at words ≡ used ++ drop next words) × FreesAll m ts used a b
+
+  -- the words of a value without blocks are passed over
+  passed : (t : Shape) → ((v : Value t) (ws : List Word) (own : List Block) → Says m.width give t v ws own → own ≡ []) → (a : Self) (words : List Operand) (at count : ℕ)
+      → count ≡ length (flatten_type (layout t)) → at + count ≤ length words → Freed t words at (at + count) a a
+  passed t alone a words at count many room =
+      let used = take count (drop at words) in
+      let all : count ≤ length (drop at words) = omega (arith, room, length-drop at words) in
+      let split = sym (take-append-drop count (drop at words)) ∙ ap (λ os. used ++ os) (drop-drop count at words) in
+      (used, split, alone_words t alone a used (length-take-le count (drop at words) all ∙ many))
+
+  pub scalar_passed : (ty : WitType) (i : Instruction) (a : Self) (words : List Operand) (at : ℕ) → lifting ty ≡ Some i → at + 1 ≤ length words → Freed (shape_of types ty) words at (at + 1) a a
+  scalar_passed ty i a words at is room =
       let s = lifted_type ty i is in
-      (h.0, h.1, subst (λ t. FreesFlat m t h.0 a a) (sym (s.shape types)) (alone_words (scalar s.scalar_is) (λ v ws own says. says.3) a h.0 h.2))
+      subst (λ t. Freed t words at (at + 1) a a) (sym (s.shape types)) (passed (scalar s.scalar_is) (λ v ws own says. says.3) a words at 1 refl room)
 
-  pub enum_passed : {A : Type 0} (members : List A) (a : Self) (words : List Operand) (at next : ℕ) → Passed words at next 1 → (used : List Operand) × (drop at words ≡ used ++ drop next words) × FreesFlat m (cases (bare members)) used a a
-  enum_passed members a words at next h =
+  pub enum_passed : {A : Type 0} (members : List A) (a : Self) (words : List Operand) (at : ℕ) → at + 1 ≤ length words → Freed (cases (bare members)) words at (at + 1) a a
+  enum_passed members a words at room =
       let many : 1 ≡ length (flatten_type (layout (cases (bare members)))) = sym (ap (λ cs. suc (length cs)) (no_slots members)) in
-      (h.0, h.1, alone_words (cases (bare members)) (λ v ws own says. none_said m.width give members v says.0 own says.3) a h.0 (h.2 ∙ many))
+      passed (cases (bare members)) (λ v ws own says. none_said m.width give members v says.0 own says.3) a words at 1 many room
 
-  pub flags_passed : (n : ℕ) (a : Self) (words : List Operand) (at next : ℕ) → Passed words at next (flag_words n) → (used : List Operand) × (drop at words ≡ used ++ drop next words) × FreesFlat m (flags n) used a a
-  flags_passed n a words at next h = (h.0, h.1, alone_words (flags n) (λ v ws own says. says.2) a h.0 (h.2 ∙ sym (length_words n)))
+  pub flags_passed : (n : ℕ) (a : Self) (words : List Operand) (at : ℕ) → at + flag_words n ≤ length words → Freed (flags n) words at (at + flag_words n) a a
+  flags_passed n a words at room = passed (flags n) (λ v ws own says. says.2) a words at (flag_words n) (sym (length_words n)) room
+
+  pub cases_passed : (ts : Shapes) (a : Self) (words : List Operand) (at count : ℕ) → Serves (cases ts) → IsFreedByWords (cases ts) → count ≡ length (flatten_type (layout (cases ts))) → at + count ≤ length words → Freed (cases ts) words at (at + count) a a
+  cases_passed ts a words at count served lacks many room = passed (cases ts) (λ v ws own says. says_none m.width give (cases ts) served lacks v ws own says) a words at count many room
 
   pub text_freed : (a b : Self) (o p : Operand) (rs : List Operand) → Emits m types GuestDeallocateString (o ∷ p ∷ []) rs a b → FreesFlat m text (o ∷ p ∷ []) a b
   text_freed a b o p rs e = record {
@@ -141,14 +191,6 @@ module _ {Self Operand : Type 0} (m : Meaning Self Operand) (sound : Sound m) (t
           },
         );
   }
-
-  -- what stands for a value of a type, by the words from a place on
-
-  abbrev pub Freed : Shape → (words : List Operand) → (at next : ℕ) → (a b : Self) → Type 0
-  Freed t words at next a b = (used : List Operand) × (drop at words ≡ used ++ drop next words) × FreesFlat m t used a b
-
-  abbrev pub AllFreed : Shapes → (words : List Operand) → (at next : ℕ) → (a b : Self) → Type 0
-  AllFreed ts words at next a b = (used : List Operand) × (drop at words ≡ used ++ drop next words) × FreesAll m ts used a b
 
   pub fields_freed : (ts : Shapes) (a b : Self) (words : List Operand) (at next : ℕ) → AllFreed ts words at next a b → Freed (fields ts) words at next a b
   fields_freed ts a b words at next h = (h.0, h.1, record { adds = h.2.adds; fits = h.2.fits; row = h.2.row })

@@ -25,6 +25,8 @@ pub mod LeafLoads
 pub mod LeafStores
 pub mod LoadSteps
 pub mod NumberWords
+pub mod LowPlaces
+pub mod WordBytes
 pub mod PartOffsets
 pub mod Replaced
 pub mod ScalarsInMemory
@@ -52,5 +54,4 @@ pub mod ArmSteps
 pub mod VariantLoads
 pub mod CaseFrees
 pub mod VariantFrees
-mod WordCounts
 mod ScalarTouched

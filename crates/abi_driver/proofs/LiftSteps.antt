@@ -31,6 +31,7 @@ use Rattle.abi_bindgen.specs.Leaves.{LiftsScalar}
 use Rattle.abi_bindgen.specs.Lifts.{LiftsAll, LiftsFlat, MayTake, OneStands, TakesOver, took}
 use Rattle.abi_bindgen.specs.Meaning.{Meaning, item, of, word}
 use Rattle.abi_bindgen.specs.Parts.{LiftsParts, PartsStand, count}
+use Rattle.abi_bindgen.specs.WordCount.{word_count}
 use Rattle.abi_bindgen.proofs.Ordinary.{adds_of, lifts_ordinary}
 use Rattle.abi_bindgen.proofs.Runs.{adds_both, adds_same, addresses_both, core_append, ofs_append}
 use Rattle.abi_driver.proofs.SaysLength.{says_length}
@@ -64,6 +65,9 @@ lifted_type wit.F64 i e = record { scalar_is = Scalar.f64; lowers = ap lowered_s
 lifted_type wit.String i e = absurd (let h = e in cc)
 lifted_type wit.ErrorContext i e = absurd (let h = e in cc)
 lifted_type (wit.Id id) i e = absurd (let h = e in cc)
+
+pub scalar_words : (types : List TypeDef) (ty : WitType) (i : Instruction) → lifting ty ≡ Some i → word_count types ty ≡ 1
+scalar_words types ty i e = ap (λ t. length (flatten_type (layout t))) ((lifted_type ty i e).shape types)
 
 module _ {Self Operand : Type 0} (m : Meaning Self Operand) (sound : Sound m) (types : List TypeDef) where
   scalar_row : (s : Scalar) (a b : Self) (o r : Operand) → Adds m a b → LiftsScalar m s (o ∷ []) (r ∷ []) a b → LiftsFlat m (scalar s) (o ∷ []) r a b

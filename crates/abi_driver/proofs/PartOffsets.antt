@@ -73,7 +73,7 @@ module _ (w : ℕ) (types : List TypeDef) where
       ap (λ es. end es 0) (part_extents (take (i + 1) tys) ∙ ap (map f) (take_more tys i d l) ∙ map_last f (take i tys) (get_or tys i d)) ∙ end_last (map f (take i tys)) (f (get_or tys i d)) 0
       ∙ ap (λ es. place (f (get_or tys i d)) (end es 0) + (f (get_or tys i d)).bytes) (sym (part_extents (take i tys)))
 
-  kind_layout : (id : ℕ) (entry : TypeDef) (tys : List WitType) (k : TypeDefKind) → GoesDown types → slice_get types id ≡ Some entry → entry.kind ≡ k → IsOfParts k tys → layout (shape_at types id) ≡ layout (fields (shapes_of types tys))
+  pub kind_layout : (id : ℕ) (entry : TypeDef) (tys : List WitType) (k : TypeDefKind) → GoesDown types → slice_get types id ≡ Some entry → entry.kind ≡ k → IsOfParts k tys → layout (shape_at types id) ≡ layout (fields (shapes_of types tys))
   kind_layout id entry tys (kind.Record members) down at e is = ap layout (record_shape types down id entry at members e) ∙ ap (λ xs. layout (fields (shapes_of types xs))) (sym is)
   kind_layout id entry tys (kind.Tuple members) down at e is = ap layout (tuple_shape types down id entry at members e) ∙ ap (λ xs. layout (fields (shapes_of types xs))) (sym is)
   kind_layout id entry tys _ down at e is = elim is [ ]

@@ -4,7 +4,7 @@ pub mod FreedCases
 pub mod Imports
 pub mod LoadedCases
 pub mod Loads
+pub mod Low
 pub mod StoredCases
 pub mod Stores
 pub mod WholeCalls
-pub mod WordCount

@@ -8,17 +8,19 @@ ghost use Rattle.abi_bindgen.specs.Code.{free_result_code, post_return_code};
 ghost use Rattle.abi_bindgen.specs.Frees.{FreesResult, PostReturns};
 ghost use Rattle.abi_bindgen.specs.Laws.{Adds};
 ghost use Rattle.abi_bindgen.specs.Sends.{Sends};
+ghost use Rattle.abi_bindgen.specs.Served.{ServesResult};
 
 use crate::dealloc::memory::free_type;
+use crate::memory::place::start;
 use abi_bindgen::{Bindgen, Instruction, argument, send};
 use std::alloc::Global;
-use wit_model::{ArchitectureSize, Function, List, OutOfMemory, Resolve, WitType};
+use wit_model::{Function, List, OutOfMemory, Resolve, WitType};
 
 /// The code of the post-return function of an export, after `post_return` of wit-bindgen-core: the blocks of its result are
 /// freed, which stands at the address that is the first argument, and nothing is given.
 ///
 /// So far a result holds scalars, texts, enums and flags, and records, tuples, variants, options and results of such, also through aliases.
-/// Of any other the answer is `OutOfMemory`, as where memory is wanting.
+/// The answer is `OutOfMemory` where there is no memory for the code, or for the operands.
 pub fn post_return<B: Bindgen>(
     alloc: Global,
     resolve: &Resolve,
@@ -28,6 +30,7 @@ pub fn post_return<B: Bindgen>(
     requires down { GoesDown resolve.now.types }
     requires below { IsTrue (payload_below (length resolve.now.types) func.now.result) }
     requires knows { B.meaning.knows bindgen.old resolve.now.types }
+    requires serves { ServesResult (result_shape resolve.now.types func.now) }
     requires argument { IfSome (B.meaning.arguments bindgen.old) (λ k. 0 < k) }
     ensures frees { OnOk result (PostReturns B.meaning (result_shape resolve.now.types func.now) bindgen.old bindgen.new) }
     ensures sends { OnOk result (Sends B.meaning resolve.now.types (post_return_code resolve.now.types func.now.result) bindgen.old bindgen.new) }
@@ -55,6 +58,7 @@ fn free_result<B: Bindgen>(
     requires below { IsTrue (payload_below (length resolve.now.types) ty) }
     requires knows { B.meaning.knows bindgen.old resolve.now.types }
     requires argument { IfSome (B.meaning.arguments bindgen.old) (λ k. 0 < k) }
+    requires serves { ServesResult (option_map (shape_of resolve.now.types) ty) }
     ensures adds { OnOk result (Adds B.meaning bindgen.old bindgen.new) }
     ensures frees { OnOk result (FreesResult B.meaning (option_map (shape_of resolve.now.types) ty) bindgen.old bindgen.new) }
     ensures sends { OnOk result (Sends B.meaning resolve.now.types (free_result_code resolve.now.types ty) bindgen.old bindgen.new) }
@@ -63,10 +67,7 @@ fn free_result<B: Bindgen>(
         return Ok(());
     };
     let address = argument(alloc, resolve, bindgen, 0)?;
-    let start = ArchitectureSize {
-        bytes: 0,
-        pointers: 0,
-    };
+    let start = start(bindgen);
     free_type(alloc, resolve, bindgen, &address, start, ty)?;
     Ok(())
 }

@@ -5,11 +5,13 @@ mod export;
 mod import;
 mod record;
 
-ghost use Rattle.std.specs.Prelude.{◌≡◌, true, OnOk};
+ghost use Rattle.std.specs.Prelude.{◌≡◌, true, map, OnOk};
 ghost use Rattle.wit_model.specs.IndexRange.{function_in_range};
 ghost use Rattle.wit_model.specs.WellFormed.{IsWellFormed};
 ghost use Rattle.abi_bindgen.specs.Code.{call_code};
 ghost use Rattle.abi_bindgen.specs.Sends.{Sends};
+ghost use Rattle.abi_bindgen.specs.Served.{ServesFunction};
+ghost use Rattle.abi_driver.specs.Low.{IsSmallRecord};
 ghost use Rattle.abi_driver.specs.WholeCalls.{CallsFunction, HasArguments, IsServed, IsWay};
 
 use crate::calls::export::call_export;
@@ -37,8 +39,8 @@ pub enum LiftLower {
 /// the whole has the method.
 ///
 /// So far each parameter and the result is a scalar, a text, an enum or flags, or a record, a tuple, a variant, an option or a result of such,
-/// also through aliases. Of any other function, and of a record of parameters of more than 2^31 - 1 bytes where pointers have 8, the answer
-/// is `OutOfMemory`, as where memory is wanting.
+/// also through aliases; and a record of all parameters has at most 2^31 - 1 bytes where pointers have 8. The answer is `OutOfMemory` where
+/// there is no memory for the code, or for the operands.
 pub fn call<B: Bindgen>(
     alloc: Global,
     resolve: &Resolve,
@@ -50,8 +52,10 @@ pub fn call<B: Bindgen>(
     requires well { IsWellFormed resolve.now }
     requires within { function_in_range resolve.now func.now ≡ true }
     requires way { IsWay variant dir }
-    requires serves { IsServed B.meaning variant bindgen.old }
+    requires side { IsServed B.meaning variant bindgen.old }
     requires knows { B.meaning.knows bindgen.old resolve.now.types }
+    requires serves { ServesFunction resolve.now.types func.now }
+    requires small { IsSmallRecord resolve.now.types (map (λ p. p.ty) func.now.params) }
     requires arguments { HasArguments B.meaning resolve.now.types variant func.now bindgen.old }
     ensures calls { OnOk result (CallsFunction B.meaning resolve.now.types variant func.now bindgen.old bindgen.new) }
     ensures sends { OnOk result (Sends B.meaning resolve.now.types (call_code resolve.now.types variant func.entry) bindgen.old bindgen.new) }

@@ -5,13 +5,17 @@ pub(crate) mod memory;
 pub(crate) mod places;
 mod variants;
 
-ghost use Rattle.std.specs.Prelude.{◌≡◌, true, length, OnOk};
+ghost use Rattle.std.specs.Prelude.{◌≡◌, ◌≤◌, true, false, length, OnOk};
 ghost use Rattle.std.specs.List.{list_all};
 ghost use Rattle.wit_model.specs.TypeOrder.{GoesDown, type_below};
+ghost use Rattle.wit_model.specs.WellFormed.{IsWellFormed};
 ghost use Rattle.abi_bindgen.specs.Code.{free_types_code};
 ghost use Rattle.abi_bindgen.specs.Frees.{FreesTypes};
 ghost use Rattle.abi_bindgen.specs.Instructions.{shapes_of};
 ghost use Rattle.abi_bindgen.specs.Sends.{Sends};
+ghost use Rattle.abi_bindgen.specs.Served.{AreFreedByWords, ServesAll};
+ghost use Rattle.abi_bindgen.specs.WordCount.{word_counts};
+ghost use Rattle.abi_driver.specs.Low.{IsSmallRecord};
 
 use crate::dealloc::flat::free_words;
 use crate::dealloc::memory::free_record;
@@ -21,10 +25,10 @@ use wit_model::{List, OutOfMemory, Resolve, WitType};
 
 /// Frees the blocks of values of some types, after `deallocate_lists_in_types` of wit-bindgen-core.
 ///
-/// Where they were passed indirectly, one operand denotes the address of a record of them; else there is one for each of their
-/// words. So far they are scalars, texts, enums and flags, and records and tuples of such, also through aliases; in a record of them also
-/// variants, options and results. Of a type that holds any other, of a record that is too large, and of more or fewer operands, the
-/// answer is `OutOfMemory`, as where memory is wanting.
+/// Where they were passed indirectly, one operand denotes the address of a record of them. It has at most 2^31 - 1 bytes where pointers have 8.
+/// Else there is an operand for each of their words, of which there are sixteen at most. So far they are scalars, texts, enums and flags, or
+/// records, tuples, variants, options and results of such, also through aliases. Where words are passed, no variant, option or result may have
+/// a text. The answer is `OutOfMemory` where there is no memory for the code, or for the operands.
 pub fn deallocate_lists_in_types<B: Bindgen>(
     alloc: Global,
     resolve: &Resolve,
@@ -33,9 +37,14 @@ pub fn deallocate_lists_in_types<B: Bindgen>(
     indirect: bool,
     bindgen: &mut B,
 ) -> Result<(), OutOfMemory>
+    requires well { IsWellFormed resolve.now }
     requires down { GoesDown resolve.now.types }
     requires below { list_all (λ ty. type_below (length resolve.now.types) ty) types.now ≡ true }
     requires knows { B.meaning.knows bindgen.old resolve.now.types }
+    requires serves { ServesAll (shapes_of resolve.now.types types.now) }
+    requires record { indirect ≡ true → IsSmallRecord resolve.now.types types.now × (length operands.now ≡ 1) }
+    requires words { indirect ≡ false → AreFreedByWords (shapes_of resolve.now.types types.now) × (length operands.now ≡ word_counts resolve.now.types types.now) }
+    requires few { indirect ≡ false → length operands.now ≤ 16 }
     ensures frees { OnOk result (FreesTypes B.meaning indirect (shapes_of resolve.now.types types.now) operands.now bindgen.old bindgen.new) }
     ensures sends { OnOk result (Sends B.meaning resolve.now.types (free_types_code resolve.now.types indirect types.now) bindgen.old bindgen.new) }
 {
@@ -57,12 +66,12 @@ fn free_at<B: Bindgen>(
     requires down { GoesDown resolve.now.types }
     requires below { list_all (λ ty. type_below (length resolve.now.types) ty) types.now ≡ true }
     requires knows { B.meaning.knows bindgen.old resolve.now.types }
+    requires serves { ServesAll (shapes_of resolve.now.types types.now) }
+    requires small { IsSmallRecord resolve.now.types types.now }
+    requires one { length operands.now ≡ 1 }
     ensures frees { OnOk result (FreesTypes B.meaning true (shapes_of resolve.now.types types.now) operands.now bindgen.old bindgen.new) }
     ensures sends { OnOk result (Sends B.meaning resolve.now.types (free_types_code resolve.now.types true types.now) bindgen.old bindgen.new) }
 {
-    if operands.len() != 1 {
-        return Err(OutOfMemory);
-    }
     free_record(alloc, resolve, types, &operands[0], bindgen)?;
     Ok(())
 }

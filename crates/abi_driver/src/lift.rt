@@ -20,8 +20,9 @@ ghost use Rattle.abi_bindgen.specs.HasList.{IsKindOf};
 ghost use Rattle.abi_bindgen.specs.Instructions.{has_cases, shapes_of};
 ghost use Rattle.abi_bindgen.specs.Lifts.{LiftsAll, LiftsFlat};
 ghost use Rattle.abi_bindgen.specs.Sends.{Sends};
+ghost use Rattle.abi_bindgen.specs.Served.{Serves, ServesAll};
 ghost use Rattle.abi_bindgen.specs.SlotCasts.{FitIn};
-ghost use Rattle.abi_driver.specs.WordCount.{word_count, word_counts};
+ghost use Rattle.abi_bindgen.specs.WordCount.{word_count, word_counts};
 
 use crate::lift::enums::lift_enum;
 use crate::lift::flags::lift_flags;
@@ -53,7 +54,7 @@ struct LiftedParts<O> {
 /// own is taken over.
 ///
 /// So far it is a scalar, a text, an enum or flags, or a record, a tuple, a variant, an option or a result of such, also through aliases.
-/// Of a type that holds any other the answer is `OutOfMemory`, as where memory is wanting.
+/// The answer is `OutOfMemory` where there is no memory for the code, or for the operands.
 pub fn lift_flat<B: Bindgen>(
     alloc: Global,
     resolve: &Resolve,
@@ -64,6 +65,7 @@ pub fn lift_flat<B: Bindgen>(
     requires well { IsWellFormed resolve.now }
     requires down { GoesDown resolve.now.types }
     requires below { IsTrue (type_below (length resolve.now.types) ty.now) }
+    requires serves { Serves (shape_of resolve.now.types ty.now) }
     requires few { length words.now ≤ 16 }
     requires exact { length words.now ≡ word_count resolve.now.types ty.now }
     ensures lifts { IfOk result (λ o. LiftsFlat B.meaning (shape_of resolve.now.types ty.now) words.now o bindgen.old bindgen.new) }
@@ -87,6 +89,7 @@ fn lift_type<B: Bindgen>(
     requires well { IsWellFormed resolve.now }
     requires down { GoesDown resolve.now.types }
     requires below { IsTrue (type_below (length resolve.now.types) ty) }
+    requires serves { Serves (shape_of resolve.now.types ty) }
     requires few { word_count resolve.now.types ty ≤ 16 }
     requires enough { at + word_count resolve.now.types ty ≤ length words.now }
     ensures next { IfOk result (λ r. r.next ≡ at + word_count resolve.now.types ty) }
@@ -100,7 +103,7 @@ fn lift_type<B: Bindgen>(
     match ty {
         WitType::String => lift_text(alloc, resolve, bindgen, words, at),
         WitType::Id(id) => lift_id(alloc, resolve, bindgen, words, at, id),
-        _ => Err(OutOfMemory),
+        _ => unreachable!(),
     }
 }
 
@@ -117,6 +120,7 @@ fn lift_id<B: Bindgen>(
     requires well { IsWellFormed resolve.now }
     requires down { GoesDown resolve.now.types }
     requires within { id.0 < length resolve.now.types }
+    requires serves { Serves (shape_at resolve.now.types id.0) }
     requires few { word_count resolve.now.types (Id id) ≤ 16 }
     requires enough { at + word_count resolve.now.types (Id id) ≤ length words.now }
     ensures next { IfOk result (λ r. r.next ≡ at + word_count resolve.now.types (Id id)) }
@@ -139,7 +143,7 @@ fn lift_id<B: Bindgen>(
         }
         TypeDefKind::Tuple(members) => {
             let tys = members.as_slice();
-            let inst = Instruction::TupleLift(part_count(tys)?);
+            let inst = Instruction::TupleLift(part_count(tys));
             let lifted = lift_parts(alloc, resolve, bindgen, words, at, place, tys)?;
             let LiftedParts { parts, next } = lifted;
             let operand = send_one(alloc, resolve, bindgen, inst, parts)?;
@@ -152,7 +156,7 @@ fn lift_id<B: Bindgen>(
         TypeDefKind::Variant(_) => lift_variant(alloc, resolve, bindgen, words, at, id, kind),
         TypeDefKind::Option(_) => lift_variant(alloc, resolve, bindgen, words, at, id, kind),
         TypeDefKind::Result(_, _) => lift_variant(alloc, resolve, bindgen, words, at, id, kind),
-        _ => Err(OutOfMemory),
+        _ => unreachable!(),
     }
 }
 
@@ -171,6 +175,7 @@ fn lift_variant<B: Bindgen>(
     requires down { GoesDown resolve.now.types }
     requires here { IsKindOf resolve.now.types id.0 kind.now }
     requires cases { has_cases kind.now ≡ true }
+    requires serves { Serves (shape_at resolve.now.types id.0) }
     requires few { word_count resolve.now.types (Id id) ≤ 16 }
     requires enough { at + word_count resolve.now.types (Id id) ≤ length words.now }
     ensures next { IfOk result (λ r. r.next ≡ at + word_count resolve.now.types (Id id)) }
@@ -207,6 +212,7 @@ fn lift_cases<B: Bindgen>(
     requires down { GoesDown resolve.now.types }
     requires within { id.0 < length resolve.now.types }
     requires below { list_all (λ payload. payload_below id.0 payload) payloads.now ≡ true }
+    requires serves { ServesAll (payloads_in (shapes resolve.now.types) payloads.now) }
     requires shared { slots.now ≡ shared_slots resolve.now.types payloads.now }
     requires few { length slots.now ≤ 16 }
     requires enough { length words.now ≡ length slots.now }
@@ -234,6 +240,7 @@ fn lift_case<B: Bindgen>(
     requires well { IsWellFormed resolve.now }
     requires down { GoesDown resolve.now.types }
     requires below { IsTrue (payload_below (length resolve.now.types) payload) }
+    requires serves { Serves (payload_in (shapes resolve.now.types) payload) }
     requires fits { FitIn (payload_words resolve.now.types payload) slots.now }
     requires few { length slots.now ≤ 16 }
     requires enough { length words.now ≡ length slots.now }
@@ -265,6 +272,7 @@ fn lift_payload<B: Bindgen>(
     requires well { IsWellFormed resolve.now }
     requires down { GoesDown resolve.now.types }
     requires below { IsTrue (type_below (length resolve.now.types) ty) }
+    requires serves { Serves (shape_of resolve.now.types ty) }
     requires fits { FitIn (payload_words resolve.now.types (Some ty)) slots.now }
     requires few { length slots.now ≤ 16 }
     requires enough { length words.now ≡ length slots.now }
@@ -299,6 +307,7 @@ fn lift_parts<B: Bindgen>(
     requires down { GoesDown resolve.now.types }
     requires within { place ≤ length resolve.now.types }
     requires below { list_all (λ ty. type_below place ty) tys.now ≡ true }
+    requires serves { ServesAll (shapes_of resolve.now.types tys.now) }
     requires few { word_counts resolve.now.types tys.now ≤ 16 }
     requires enough { at + word_counts resolve.now.types tys.now ≤ length words.now }
     ensures next { IfOk result (λ r. r.next ≡ at + word_counts resolve.now.types tys.now) }

@@ -6,8 +6,12 @@ mod sites;
 mod trees;
 mod worlds;
 
-ghost use Rattle.std.specs.Prelude.{◌<◌, length};
+ghost use Rattle.std.specs.Prelude.{◌<◌, [], ◌∷◌, length};
 ghost use Rattle.wit_model.specs.WellFormed.{IsWellFormed};
+ghost use Rattle.wit_model.specs.declared.types.WitType.TheVariants.{Id};
+ghost use Rattle.wrapper_meaning.specs.Shape.{shape_at};
+ghost use Rattle.abi_bindgen.specs.Served.{Serves};
+ghost use Rattle.abi_driver.specs.Low.{IsSmallRecord};
 
 use code::{export_code, import_code};
 use rust_gen::{Build, Files, Opts};
@@ -51,6 +55,8 @@ fn are_one_export(made: &Bindings, driven: &Bindings) -> bool {
 fn is_driven_import(alloc: Global, resolve: &Resolve, tree: &Bindings) -> Result<bool, Fail>
     requires well { IsWellFormed resolve.now }
     requires some { 0 < length resolve.now.types }
+    requires serves { Serves (shape_at resolve.now.types 0) }
+    requires small { IsSmallRecord resolve.now.types (Id (record { 0 = 0 }) ∷ []) }
 {
     let body = import_code(alloc, resolve)?;
     let driven = import_tree(alloc, body)?;
@@ -61,6 +67,8 @@ fn is_driven_import(alloc: Global, resolve: &Resolve, tree: &Bindings) -> Result
 fn is_driven_export(alloc: Global, resolve: &Resolve, tree: &Bindings) -> Result<bool, Fail>
     requires well { IsWellFormed resolve.now }
     requires some { 0 < length resolve.now.types }
+    requires serves { Serves (shape_at resolve.now.types 0) }
+    requires small { IsSmallRecord resolve.now.types (Id (record { 0 = 0 }) ∷ []) }
 {
     let body = export_code(alloc, resolve)?;
     let driven = export_tree(alloc, body)?;
@@ -75,6 +83,8 @@ const PAYLOAD: &str =
 fn passes_payload(alloc: Global, resolve: &Resolve) -> Result<bool, Fail>
     requires well { IsWellFormed resolve.now }
     requires some { 0 < length resolve.now.types }
+    requires serves { Serves (shape_at resolve.now.types 0) }
+    requires small { IsSmallRecord resolve.now.types (Id (record { 0 = 0 }) ∷ []) }
 {
     let tree = tree_of(alloc, resolve)?;
     let is_same = is_driven_import(alloc, resolve, &tree)?;
@@ -97,6 +107,8 @@ const WORDS: &str =
 fn reads_words(alloc: Global, resolve: &Resolve) -> Result<bool, Fail>
     requires well { IsWellFormed resolve.now }
     requires some { 0 < length resolve.now.types }
+    requires serves { Serves (shape_at resolve.now.types 0) }
+    requires small { IsSmallRecord resolve.now.types (Id (record { 0 = 0 }) ∷ []) }
 {
     let tree = tree_of(alloc, resolve)?;
     let is_same = is_driven_export(alloc, resolve, &tree)?;

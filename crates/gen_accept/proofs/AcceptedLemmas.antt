@@ -1,6 +1,6 @@
 -- The types of a world that is accepted may be defined, and its functions name types that are.
 use Rattle.std.proofs.Common.{◌≡◌, ℕ, true, ◌&&◌, ◌||◌, List, [], ◌∷◌, Option, None, Some, length, inl, inr, refl, sym, ap, ◌∙◌, arith}
-use Rattle.std.specs.Prelude.{slice_get}
+use Rattle.std.specs.Prelude.{nat_le, slice_get}
 use Rattle.std.specs.List.{Contains, list_all}
 use Rattle.std.proofs.lemmas.Bool.{and_from, and_parts}
 use Rattle.std.specs.Option.{option_to_list}
@@ -35,7 +35,7 @@ use Rattle.type_defs.specs.Used.{IsUsed, UsesTypes, function_types, is_always_en
 use Rattle.type_defs.proofs.FunctionTypeLemmas.{all-more}
 use Rattle.type_defs.proofs.UsedLemmas.{used_is}
 use Rattle.gen_accept.specs.declared.opts.Opts.{Opts}
-use Rattle.gen_accept.specs.Built.{are_built_options, are_built_tables, is_built_item, is_built_kind, is_built_world, is_empty, is_freestanding, is_no_type}
+use Rattle.gen_accept.specs.Built.{are_built_options, are_built_tables, is_built_item, is_built_kind, is_built_world, is_empty, is_freestanding, is_no_type, most_cases}
 use Rattle.gen_accept.specs.Cause.{is_accepted, is_built}
 use Rattle.gen_accept.specs.Emitted.{exported_functions, imported_functions}
 use Rattle.gen_accept.specs.TypeOpts.{type_opts}
@@ -73,7 +73,8 @@ defined-parts (kind.Tuple members) h = list_all-map is_defined_part (λ ty. Some
 defined-parts (kind.Option ty) h = and_from (is_defined_type ty) true h refl
 defined-parts (kind.Result ok err) h =
     let both = and_parts (is_defined_part ok) (is_defined_part err) h in and_from (is_defined_part ok) (is_defined_part err && true) both.0 (and_from (is_defined_part err) true both.1 refl)
-defined-parts (kind.Variant cases) h = list_all-map is_defined_part (λ c. c.ty) cases ∙ h
+defined-parts (kind.Variant cases) h =
+    list_all-map is_defined_part (λ c. c.ty) cases ∙ (and_parts (nat_le (length cases) most_cases) (list_all (λ c. is_defined_part c.ty) cases) h).1
 defined-parts (kind.Enum cases) h = refl
 defined-parts (kind.Flags members) h = refl
 defined-parts _ h = absurd (cc)
@@ -101,6 +102,9 @@ module _ (opts : Opts) (r : Resolve) (id : WorldId) (world : World) (checked : I
       let kinds = list_all (λ t. is_built_kind t.kind) r.types in
       let both = and_parts (is_empty r.interfaces && kinds) (list_all is_built_world r.worlds) (and_parts (are_built_tables r) (are_built_options opts) built).0 in
       ((and_parts (is_empty r.interfaces) kinds both.0).1, both.1)
+
+  pub built-kinds : list_all (λ t. is_built_kind t.kind) r.types ≡ true
+  built-kinds = tables.0
 
   pub built-world : is_built_world world ≡ true
   built-world = all_at is_built_world r.worlds id.0 world tables.1 found
@@ -136,8 +140,11 @@ module _ (opts : Opts) (r : Resolve) (id : WorldId) (world : World) (checked : I
 
   -- the types of its functions
 
+  pub functions-defined : functions_pass is_defined_type world ≡ true
+  functions-defined = world-types world built-world
+
   types-pass : list_all is_defined_type (function_types r world) ≡ true
-  types-pass = function-types-pass is_defined_type r world built-world (world-types world built-world)
+  types-pass = function-types-pass is_defined_type r world built-world functions-defined
 
   used-type : (ty : WitType) → Contains (function_types r world) ty → type_below (length r.types) ty ≡ true → IsUsed r world ty
   used-type ty among below = record { used = among; below = below; defined = all-contained is_defined_type (function_types r world) ty types-pass among }

@@ -7,4 +7,5 @@ pub mod FunctionLemmas
 pub mod LargeLemmas
 mod ListedNameLemmas
 pub mod RootLemmas
+pub mod ServedLemmas
 pub mod WithinLemmas

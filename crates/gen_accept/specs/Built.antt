@@ -1,5 +1,5 @@
 -- Which tables and options hold only what the generator builds so far.
-use Rattle.std.specs.Prelude.{Bool, true, false, not, ◌&&◌, nat_le, List, [], ◌∷◌, length, is_none}
+use Rattle.std.specs.Prelude.{Bool, true, false, not, ◌&&◌, ◌^◌, ℕ, nat_le, List, [], ◌∷◌, length, is_none}
 use Rattle.std.specs.List.{list_all}
 use Rattle.wit_model.specs.declared.types.TypeDefKind.{TypeDefKind}
 use Rattle.wit_model.specs.declared.types.TypeDefKind.TheVariants as sort
@@ -42,16 +42,20 @@ is_built_world world =
     list_all (λ entry. is_built_item entry.1) world.imports && list_all (λ entry. is_built_item entry.1) world.exports
     && list_all (λ entry. is_no_type entry.1) world.exports
 
--- a type that the table may have: an alias, a record, a tuple, an option, a result, a variant, an enum, or flags of which there are 128
--- at most
+-- so many cases have numbers that a word of 32 bits keeps without its sign
+abbrev pub most_cases : ℕ
+most_cases = 2 ^ 31
+
+-- a type that the table may have: an alias, a record, a tuple, an option, a result, a variant or an enum that has no more cases than these, or
+-- flags of which there are 128 at most
 abbrev pub is_built_kind : TypeDefKind → Bool
 is_built_kind (sort.Alias ty) = is_defined_type ty
 is_built_kind (sort.Tuple members) = list_all is_defined_type members
 is_built_kind (sort.Record fields) = list_all (λ f. is_defined_type f.ty) fields
 is_built_kind (sort.Option ty) = is_defined_type ty
 is_built_kind (sort.Result ok err) = is_defined_part ok && is_defined_part err
-is_built_kind (sort.Variant cases) = list_all (λ c. is_defined_part c.ty) cases
-is_built_kind (sort.Enum _) = true
+is_built_kind (sort.Variant cases) = nat_le (length cases) most_cases && list_all (λ c. is_defined_part c.ty) cases
+is_built_kind (sort.Enum cases) = nat_le (length cases) most_cases
 is_built_kind (sort.Flags members) = nat_le (length members) 128
 is_built_kind _ = false
 

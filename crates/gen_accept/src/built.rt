@@ -14,6 +14,9 @@ use wit_model::{
     World, WorldItem, WorldKey,
 };
 
+/// So many cases have numbers that a word of 32 bits keeps without its sign.
+const MOST_CASES: usize = 0x8000_0000;
+
 fn is_defined_type(ty: WitType) -> bool
     ensures { result ≡ is_defined_type ty }
 {
@@ -133,8 +136,10 @@ fn is_built_kind(kind: &TypeDefKind) -> bool
         TypeDefKind::Record(fields) => are_built_fields(fields.as_slice()),
         TypeDefKind::Option(ty) => is_defined_type(*ty),
         TypeDefKind::Result(ok, err) => is_defined_part(ok) && is_defined_part(err),
-        TypeDefKind::Variant(cases) => are_built_cases(cases.as_slice()),
-        TypeDefKind::Enum(_) => true,
+        TypeDefKind::Variant(cases) => {
+            cases.len() <= MOST_CASES && are_built_cases(cases.as_slice())
+        }
+        TypeDefKind::Enum(cases) => cases.len() <= MOST_CASES,
         TypeDefKind::Flags(members) => members.len() <= 128,
         _ => false,
     }
@@ -147,7 +152,7 @@ fn are_built_kinds(types: &[TypeDef]) -> bool
 }
 
 /// Whether the tables hold only worlds of functions, and of types which a world may import: aliases, records, tuples, options,
-/// results, variants, enums, and flags types of 128 members at most.
+/// results, variants and enums of 2^31 cases at most, and flags types of 128 members at most.
 #[tactic(auto, unfolding(crate::specs::Built::are_built_tables))]
 pub(crate) fn are_built_tables(resolve: &Resolve) -> bool
     ensures { result ≡ are_built_tables resolve.now }

@@ -1,5 +1,5 @@
 -- What is known of a world of which a tree is made.
-use Rattle.std.specs.Prelude.{◌≡◌, ℕ, true, List, [], Option, None, Some, slice_get}
+use Rattle.std.specs.Prelude.{◌≡◌, ℕ, true, List, [], Option, None, Some, map, slice_get}
 use Rattle.wit_model.specs.Distinct.{is_distinct}
 use Rattle.wit_model.specs.WellFormed.{IsWellFormed}
 use Rattle.wit_model.specs.declared.function.Function.{Function}
@@ -8,6 +8,8 @@ use Rattle.wit_model.specs.declared.resolve.Resolve.{Resolve}
 use Rattle.wit_model.specs.declared.types.TypeDef.{TypeDef}
 use Rattle.wit_model.specs.declared.world.World.{World}
 use Rattle.wit_layout.specs.Filled.{IsFilledFor}
+use Rattle.abi_bindgen.specs.Served.{ServesFunction}
+use Rattle.abi_driver.specs.Low.{IsSmallRecord}
 use Rattle.func_gen.specs.TypeSites.{CanBeDefined}
 use Rattle.func_gen.specs.declared.type_site.TypeSite.{TypeSite}
 use Rattle.func_gen.specs.declared.type_tables.TypeTables.{TypeTables}
@@ -26,6 +28,15 @@ use Rattle.gen_accept.specs.TypeOpts.{type_opts}
 -- no two parameters of a function have the same identifier
 abbrev pub HaveDistinctParams : List Function → Type 0
 HaveDistinctParams fs = (nth : ℕ) (f : Function) → slice_get fs nth ≡ Some f → is_distinct (param_idents f) ≡ true
+
+-- the driver has code for a function: it serves the types of the function, and a record of the parameters has few bytes
+pub record HasCode (types : List TypeDef) (f : Function) : Type 0 where
+  pub serves : ServesFunction types f
+  pub small : IsSmallRecord types (map (λ p. p.ty) f.params)
+
+-- for each of these
+abbrev pub HaveCode : List TypeDef → List Function → Type 0
+HaveCode types fs = (nth : ℕ) (f : Function) → slice_get fs nth ≡ Some f → HasCode types f
 
 -- the tables of types, where they are at hand: the layouts are those of the types, and items can define the types that have a site
 abbrev pub AreAtHand : List TypeDef → Option TypeTables → Type 0
@@ -55,6 +66,8 @@ pub record IsKnown (opts : Opts) (r : Resolve) (id : WorldId) (world : World) : 
   pub declared : declares_well opts r world ≡ true
   pub imports : AreInRange r (imported_functions world)
   pub exports : AreInRange r (exported_functions world)
+  pub imports_code : HaveCode r.types (imported_functions world)
+  pub exports_code : HaveCode r.types (exported_functions world)
   pub distinct : HaveDistinctParams (imported_functions world)
   pub names : are_type_names r.types ≡ true
   pub imports_use : UseTypes r world (imported_functions world)

@@ -9,7 +9,7 @@ ghost use Rattle.gen_accept.specs.DeclaredNames.{guest_name};
 ghost use Rattle.wrapper_faithful.specs.Passed.{passed};
 ghost use Rattle.wrapper_closing.specs.Params.{arg_names, export_args, ret_area};
 ghost use Rattle.rust_gen.specs.Body.{AreExportParts, CallsMethodOf, IsCodeOf, IsExportCode, IsExportMade, IsExportOutside};
-ghost use Rattle.rust_gen.specs.Known.{AreAtHand, sites_in};
+ghost use Rattle.rust_gen.specs.Known.{AreAtHand, HasCode, sites_in};
 
 use crate::exported::{export_result, guest_name};
 use crate::tables::take_tables;
@@ -90,6 +90,7 @@ fn export_code(
 ) -> Result<ExportCode, OutOfMemory>
     requires well { IsWellFormed resolve.now }
     requires within { function_in_range resolve.now f.now ≡ true }
+    requires code { HasCode resolve.now.types f.now }
     requires tables { AreAtHand resolve.now.types tables.old }
     ensures made { IfOk result (IsExportCode resolve.now.types (sites_in tables.old) f.entry) }
     ensures kept { OnOk result (AreAtHand resolve.now.types tables.new) }
@@ -178,6 +179,7 @@ fn calling_code(
 ) -> Result<ExportCode, OutOfMemory>
     requires well { IsWellFormed resolve.now }
     requires within { function_in_range resolve.now f.now ≡ true }
+    requires code { HasCode resolve.now.types f.now }
     requires tables { AreAtHand resolve.now.types tables.old }
     ensures code { IfOk result (IsExportCode resolve.now.types (sites_in tables.old) f.entry) }
     ensures calls { IfOk result (λ code. CallsMethodOf f.now code.call) }
@@ -209,6 +211,7 @@ pub(crate) fn export_wrapper(
 ) -> Result<ExportMade, OutOfMemory>
     requires well { IsWellFormed resolve.now }
     requires within { function_in_range resolve.now f.now ≡ true }
+    requires code { HasCode resolve.now.types f.now }
     requires tables { AreAtHand resolve.now.types tables.old }
     ensures made { IfOk result (IsExportMade resolve.now.types (sites_in tables.old) f.now) }
     ensures kept { OnOk result (AreAtHand resolve.now.types tables.new) }

@@ -10,7 +10,7 @@ ghost use Rattle.type_defs.specs.ParamType.{HasFacts};
 ghost use Rattle.type_defs.specs.PartType.{printed_result};
 ghost use Rattle.rust_gen.specs.Body.{AreImportParts, IsImportCode, IsImportHead, IsImportMade};
 ghost use Rattle.rust_gen.specs.FixedName.{IsFixedName};
-ghost use Rattle.rust_gen.specs.Known.{AreAtHand, sites_in};
+ghost use Rattle.rust_gen.specs.Known.{AreAtHand, HasCode, sites_in};
 ghost use Rattle.rust_gen.specs.Wrapper.{printed_param, root_module};
 
 use crate::fixed_name::fixed_name;
@@ -86,6 +86,7 @@ fn import_code(
 ) -> Result<(Block, List<RuntimeItem>), OutOfMemory>
     requires well { IsWellFormed resolve.now }
     requires within { function_in_range resolve.now f.now ≡ true }
+    requires code { HasCode resolve.now.types f.now }
     requires distinct { is_distinct (param_idents f.now) ≡ true }
     requires tables { AreAtHand resolve.now.types tables.old }
     ensures made { IfOk result (λ made. IsImportCode resolve.now.types (sites_in tables.old) f.entry made.0 made.1) }
@@ -166,6 +167,7 @@ pub(crate) fn import_wrapper(
 ) -> Result<(FnItem, List<RuntimeItem>), OutOfMemory>
     requires well { IsWellFormed resolve.now }
     requires within { function_in_range resolve.now f.now ≡ true }
+    requires code { HasCode resolve.now.types f.now }
     requires distinct { is_distinct (param_idents f.now) ≡ true }
     requires tables { AreAtHand resolve.now.types tables.old }
     requires facts { HasFacts resolve.now facts.now }

@@ -4,7 +4,7 @@ ghost use Rattle.std.specs.Prelude.{◌≡◌, true, IfOk, OnOk};
 ghost use Rattle.wit_model.specs.IndexRange.{function_in_range};
 ghost use Rattle.wit_model.specs.WellFormed.{IsWellFormed};
 ghost use Rattle.rust_gen.specs.Body.{IsReturnCode, IsReturnMade};
-ghost use Rattle.rust_gen.specs.Known.{AreAtHand, sites_in};
+ghost use Rattle.rust_gen.specs.Known.{AreAtHand, HasCode, sites_in};
 
 use crate::export::{ExportHead, export_head, export_parts};
 use func_gen::{Body, TypeTables};
@@ -22,6 +22,7 @@ fn return_code(
 ) -> Result<(Block, List<RuntimeItem>), OutOfMemory>
     requires well { IsWellFormed resolve.now }
     requires within { function_in_range resolve.now f.now ≡ true }
+    requires code { HasCode resolve.now.types f.now }
     requires tables { AreAtHand resolve.now.types tables.old }
     ensures made { IfOk result (λ made. IsReturnCode resolve.now.types (sites_in tables.old) f.now made.0 made.1) }
     ensures kept { OnOk result (AreAtHand resolve.now.types tables.new) }
@@ -69,6 +70,7 @@ pub(crate) fn post_return(
 ) -> Result<(PostReturnFn, List<RuntimeItem>), OutOfMemory>
     requires well { IsWellFormed resolve.now }
     requires within { function_in_range resolve.now f.now ≡ true }
+    requires code { HasCode resolve.now.types f.now }
     requires tables { AreAtHand resolve.now.types tables.old }
     ensures made { IfOk result (λ made. IsReturnMade resolve.now.types (sites_in tables.old) f.now made.0 made.1) }
     ensures kept { OnOk result (AreAtHand resolve.now.types tables.new) }

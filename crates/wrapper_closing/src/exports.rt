@@ -1,7 +1,9 @@
 //! The body of an export's wrapper.
 
-ghost use Rattle.std.specs.Prelude.{◌≡◌, length, true, IfOk};
+ghost use Rattle.std.specs.Prelude.{◌≡◌, length, map, true, IfOk};
 ghost use Rattle.abi_driver.specs.Exports.{export_params};
+ghost use Rattle.abi_bindgen.specs.Served.{ServesFunction};
+ghost use Rattle.abi_driver.specs.Low.{IsSmallRecord};
 ghost use Rattle.wit_model.specs.IndexRange.{function_in_range};
 ghost use Rattle.wit_model.specs.WellFormed.{IsWellFormed};
 ghost use Rattle.wrapper_closing.specs.Bodies.{MakesExport, calls_method};
@@ -16,7 +18,7 @@ use wit_layout::AbiVariant;
 use wit_model::{Function, OutOfMemory, Resolve};
 
 /// The body of the wrapper of an exported function: the block that calls its method, and the driver's code behind it; and the tables of its
-/// parts. Of a function for which there is no such code, the answer is `OutOfMemory`, as where memory is wanting.
+/// parts. The answer is `OutOfMemory` where there is no memory for it.
 pub fn export_body(
     alloc: Global,
     resolve: &Resolve,
@@ -25,6 +27,8 @@ pub fn export_body(
 ) -> Result<(Body, TypeTables), OutOfMemory>
     requires well { IsWellFormed resolve.now }
     requires within { function_in_range resolve.now func.now ≡ true }
+    requires serves { ServesFunction resolve.now.types func.now }
+    requires small { IsSmallRecord resolve.now.types (map (λ p. p.ty) func.now.params) }
     requires parts { AreParts resolve.now.types parts }
     requires many { length parts.params ≡ length (export_params resolve.now.types func.now) }
     ensures makes { IfOk result (λ made. MakesExport resolve.now.types func.entry parts made.0) }

@@ -1,6 +1,8 @@
 //! The body of an import's wrapper.
 
-ghost use Rattle.std.specs.Prelude.{◌≡◌, length, true, IfOk};
+ghost use Rattle.std.specs.Prelude.{◌≡◌, length, map, true, IfOk};
+ghost use Rattle.abi_bindgen.specs.Served.{ServesFunction};
+ghost use Rattle.abi_driver.specs.Low.{IsSmallRecord};
 ghost use Rattle.wit_model.specs.IndexRange.{function_in_range};
 ghost use Rattle.wit_model.specs.WellFormed.{IsWellFormed};
 ghost use Rattle.wrapper_closing.specs.Bodies.{MakesImport};
@@ -13,8 +15,8 @@ use std::alloc::Global;
 use wit_layout::AbiVariant;
 use wit_model::{Function, OutOfMemory, Resolve};
 
-/// The body of the wrapper of an imported function, which is the driver's code for it; and the tables of its parts. Of a function for which
-/// there is no such code, the answer is `OutOfMemory`, as where memory is wanting.
+/// The body of the wrapper of an imported function, which is the driver's code for it; and the tables of its parts. The answer is
+/// `OutOfMemory` where there is no memory for it.
 pub fn import_body(
     alloc: Global,
     resolve: &Resolve,
@@ -23,6 +25,8 @@ pub fn import_body(
 ) -> Result<(Body, TypeTables), OutOfMemory>
     requires well { IsWellFormed resolve.now }
     requires within { function_in_range resolve.now func.now ≡ true }
+    requires serves { ServesFunction resolve.now.types func.now }
+    requires small { IsSmallRecord resolve.now.types (map (λ p. p.ty) func.now.params) }
     requires parts { AreParts resolve.now.types parts }
     requires many { length parts.params ≡ length func.now.params }
     ensures makes { IfOk result (λ made. MakesImport resolve.now.types func.entry parts made.0) }

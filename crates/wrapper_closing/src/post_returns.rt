@@ -1,6 +1,8 @@
 //! The body of an export's post-return function.
 
 ghost use Rattle.std.specs.Prelude.{◌≡◌, ◌<◌, length, true, IfOk};
+ghost use Rattle.abi_bindgen.specs.Served.{ServesResult};
+ghost use Rattle.wrapper_meaning.specs.Shape.{result_shape};
 ghost use Rattle.wit_model.specs.IndexRange.{function_in_range};
 ghost use Rattle.wit_model.specs.WellFormed.{IsWellFormed};
 ghost use Rattle.wrapper_closing.specs.Bodies.{MakesPostReturn};
@@ -13,7 +15,7 @@ use std::alloc::Global;
 use wit_model::{Function, OutOfMemory, Resolve};
 
 /// The body of the post-return function of an exported function, which is the driver's code by which the blocks of its result are freed; and the
-/// tables of its parts. Of a function for which there is no such code, the answer is `OutOfMemory`, as where memory is wanting.
+/// tables of its parts. The answer is `OutOfMemory` where there is no memory for it.
 pub fn post_return_body(
     alloc: Global,
     resolve: &Resolve,
@@ -22,6 +24,7 @@ pub fn post_return_body(
 ) -> Result<(Body, TypeTables), OutOfMemory>
     requires well { IsWellFormed resolve.now }
     requires within { function_in_range resolve.now func.now ≡ true }
+    requires serves { ServesResult (result_shape resolve.now.types func.now) }
     requires parts { AreParts resolve.now.types parts }
     requires some { 0 < length parts.params }
     ensures makes { IfOk result (λ made. MakesPostReturn resolve.now.types func.now parts made.0) }

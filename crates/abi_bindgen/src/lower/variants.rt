@@ -17,9 +17,6 @@ use crate::sending::{push_copies, send_one};
 use std::alloc::Global;
 use wit_model::{Case, List, OutOfMemory, Resolve, TypeDefKind, TypeId, WasmType, WitType};
 
-/// So many cases at most have numbers that a word of 32 bits keeps, whose highest bit is its sign.
-pub const MOST_CASES: usize = 0x8000_0000;
-
 /// The payloads of the cases of a variant.
 fn case_payloads(alloc: Global, members: &[Case]) -> Result<List<Option<WitType>>, OutOfMemory>
     ensures { IfOk result (λ payloads. payloads ≡ map (λ c. c.ty) members.now) }

@@ -1,6 +1,6 @@
 //! Records that pass by the return area.
 
-ghost use Rattle.std.specs.Prelude.{◌≡◌, ◌++◌, true, length, IfOk, OnOk};
+ghost use Rattle.std.specs.Prelude.{◌≡◌, ◌<◌, ◌^◌, ◌++◌, IsTrue, true, length, IfOk, OnOk};
 ghost use Rattle.std.specs.List.{list_all};
 ghost use Rattle.wit_model.specs.WellFormed.{IsWellFormed};
 ghost use Rattle.wit_model.specs.TypeOrder.{GoesDown, type_below};
@@ -12,11 +12,13 @@ ghost use Rattle.abi_driver.specs.Imports.{PassesRecord, Points};
 ghost use Rattle.abi_bindgen.specs.Instructions.{shapes_of};
 ghost use Rattle.abi_bindgen.specs.Laws.{IsCount};
 ghost use Rattle.abi_bindgen.specs.Sends.{Sends};
+ghost use Rattle.abi_bindgen.specs.Served.{ServesAll};
+ghost use Rattle.abi_driver.specs.Low.{IsSmallRecord};
 ghost use Rattle.abi_driver.specs.Stores.{StoresArguments};
 
 use crate::dealloc::places::record_places;
 use crate::memory::store::store_type;
-use abi_bindgen::{Bindgen, argument, numbered};
+use abi_bindgen::{Bindgen, argument};
 use std::alloc::Global;
 use wit_model::{List, OutOfMemory, Resolve, WitType};
 
@@ -26,21 +28,19 @@ pub(super) fn point_at<B: Bindgen>(
     bindgen: &mut B,
     ty: WitType,
 ) -> Result<B::Operand, OutOfMemory>
+    requires below { IsTrue (type_below (length resolve.now.types) ty) }
     requires knows { B.meaning.knows bindgen.old resolve.now.types }
     ensures points { IfOk result (λ o. Points B.meaning (shape_of resolve.now.types ty) o bindgen.old bindgen.new) }
     ensures sends { OnOk result (Sends B.meaning resolve.now.types (ask_for (shape_of resolve.now.types ty)) bindgen.old bindgen.new) }
 {
     let sizes = bindgen.sizes();
-    if !sizes.has_size(&ty) {
-        return Err(OutOfMemory);
-    }
     let size = sizes.size(&ty);
     let align = sizes.align(&ty);
     let operand = bindgen.return_pointer(size, align)?;
     Ok(operand)
 }
 
-/// The same of a record of these types. Of one that is too large the answer is `OutOfMemory`.
+/// The same of a record of these types.
 fn point_at_record<B: Bindgen>(
     resolve: &Resolve,
     bindgen: &mut B,
@@ -48,13 +48,11 @@ fn point_at_record<B: Bindgen>(
 ) -> Result<B::Operand, OutOfMemory>
     requires below { list_all (λ ty. type_below (length resolve.now.types) ty) tys.now ≡ true }
     requires knows { B.meaning.knows bindgen.old resolve.now.types }
+    requires small { IsSmallRecord resolve.now.types tys.now }
     ensures points { IfOk result (λ o. Points B.meaning (fields (shapes_of resolve.now.types tys.now)) o bindgen.old bindgen.new) }
     ensures sends { OnOk result (Sends B.meaning resolve.now.types (ask_for (fields (shapes_of resolve.now.types tys.now))) bindgen.old bindgen.new) }
 {
     let sizes = bindgen.sizes();
-    if !sizes.fits_in_record(tys) {
-        return Err(OutOfMemory);
-    }
     let (size, align) = sizes.record_of(tys);
     let operand = bindgen.return_pointer(size, align)?;
     Ok(operand)
@@ -70,9 +68,12 @@ pub(super) fn store_arguments<B: Bindgen>(
     requires well { IsWellFormed resolve.now }
     requires down { GoesDown resolve.now.types }
     requires below { list_all (λ ty. type_below (length resolve.now.types) ty) tys.now ≡ true }
-    requires serves { B.meaning.imports bindgen.old ≡ true }
+    requires side { B.meaning.imports bindgen.old ≡ true }
     requires knows { B.meaning.knows bindgen.old resolve.now.types }
     requires arguments { IsCount B.meaning (B.meaning.arguments bindgen.old) (length tys.now) }
+    requires serves { ServesAll (shapes_of resolve.now.types tys.now) }
+    requires small { IsSmallRecord resolve.now.types tys.now }
+    requires few { length tys.now < 2 ^ 32 }
     ensures passes { IfOk result (λ o. PassesRecord B.meaning (shapes_of resolve.now.types tys.now) o bindgen.old bindgen.new) }
     ensures sends { OnOk result (Sends B.meaning resolve.now.types (ask_for (fields (shapes_of resolve.now.types tys.now)) ++ code.store_arguments resolve.now.types tys.now) bindgen.old bindgen.new) }
 {
@@ -92,17 +93,19 @@ fn store_at<B: Bindgen>(
     requires well { IsWellFormed resolve.now }
     requires down { GoesDown resolve.now.types }
     requires below { list_all (λ ty. type_below (length resolve.now.types) ty) tys.now ≡ true }
-    requires serves { B.meaning.imports bindgen.old ≡ true }
+    requires side { B.meaning.imports bindgen.old ≡ true }
     requires knows { B.meaning.knows bindgen.old resolve.now.types }
     requires arguments { IsCount B.meaning (B.meaning.arguments bindgen.old) (length tys.now) }
+    requires serves { ServesAll (shapes_of resolve.now.types tys.now) }
+    requires small { IsSmallRecord resolve.now.types tys.now }
+    requires few { length tys.now < 2 ^ 32 }
     ensures stores { OnOk result (StoresArguments B.meaning (shapes_of resolve.now.types tys.now) 0 address.now 0 bindgen.old bindgen.new) }
     ensures sends { OnOk result (Sends B.meaning resolve.now.types (code.store_arguments resolve.now.types tys.now) bindgen.old bindgen.new) }
 {
     let sizes = bindgen.sizes();
     let places = record_places(alloc, sizes, tys)?;
     for i in 0..tys.len() {
-        let number = numbered(i)?;
-        let value = argument(alloc, resolve, bindgen, number)?;
+        let value = argument(alloc, resolve, bindgen, i as u32)?;
         let place = places.as_slice()[i];
         store_type(
             alloc, resolve, bindgen, address, place, value, tys[i], false,

@@ -1,6 +1,6 @@
 //! The whole code of an export.
 
-ghost use Rattle.std.specs.Prelude.{◌≡◌, ◌≤◌, ◌+◌, ◌++◌, IsTrue, Some, true, false, length, option_to_list, IfOk, IfSome, OnOk};
+ghost use Rattle.std.specs.Prelude.{◌≡◌, ◌<◌, ◌≤◌, ◌+◌, ◌^◌, ◌++◌, IsTrue, Some, true, false, length, map, option_to_list, IfOk, IfSome, OnOk};
 ghost use Rattle.std.specs.List.{list_all};
 ghost use Rattle.std.specs.Option.{option_map};
 ghost use Rattle.wit_model.specs.IndexRange.{function_in_range};
@@ -33,15 +33,16 @@ ghost use Rattle.abi_bindgen.specs.Laws.{IsCount};
 ghost use Rattle.abi_bindgen.specs.Lifts.{LiftsArguments};
 ghost use Rattle.abi_bindgen.specs.Lowers.{LowersAnswer};
 ghost use Rattle.abi_bindgen.specs.Sends.{Sends};
+ghost use Rattle.abi_bindgen.specs.Served.{Serves, ServesAll, ServesFunction, ServesResult};
+ghost use Rattle.abi_bindgen.specs.WordCount.{word_count};
+ghost use Rattle.abi_driver.specs.Low.{IsSmallRecord};
 
 use crate::calls::area::point_at;
 use crate::calls::record::load_arguments;
 use crate::lift::lift_flat;
-use crate::memory::place::NOWHERE;
+use crate::memory::place::start;
 use crate::memory::store::store_type;
-use abi_bindgen::{
-    Bindgen, Instruction, Operand, argument, lower_flat, numbered, only, param_types, send,
-};
+use abi_bindgen::{Bindgen, Instruction, Operand, argument, lower_flat, only, param_types, send};
 use std::alloc::Global;
 use wit_layout::{AbiVariant, flat_types, wasm_signature};
 use wit_model::{Function, List, OutOfMemory, Resolve, WitType};
@@ -55,9 +56,11 @@ pub(super) fn call_export<B: Bindgen>(
 ) -> Result<(), OutOfMemory>
     requires well { IsWellFormed resolve.now }
     requires within { function_in_range resolve.now func.now ≡ true }
-    requires serves { B.meaning.exports bindgen.old ≡ true }
+    requires side { B.meaning.exports bindgen.old ≡ true }
     requires knows { B.meaning.knows bindgen.old resolve.now.types }
     requires arguments { IsCount B.meaning (B.meaning.arguments bindgen.old) (length (export_params resolve.now.types func.now)) }
+    requires serves { ServesFunction resolve.now.types func.now }
+    requires small { IsSmallRecord resolve.now.types (map (λ p. p.ty) func.now.params) }
     ensures calls { OnOk result (CallsExport B.meaning func.now (param_shapes resolve.now.types func.now) (result_shape resolve.now.types func.now) bindgen.old bindgen.new) }
     ensures sends { OnOk result (Sends B.meaning resolve.now.types (export_code resolve.now.types func.entry) bindgen.old bindgen.new) }
 {
@@ -81,7 +84,7 @@ pub(super) fn call_export<B: Bindgen>(
         func.result,
         retptr,
     )?;
-    let given_count = numbered(given.len())?;
+    let given_count = given.len() as u32;
     send(
         alloc,
         resolve,
@@ -105,6 +108,9 @@ fn take_arguments<B: Bindgen>(
     requires knows { B.meaning.knows bindgen.old resolve.now.types }
     requires arguments { IsCount B.meaning (B.meaning.arguments bindgen.old) (length (argument_words (shapes_of resolve.now.types tys.now))) }
     requires indirect { indirect ≡ are_indirect (shapes_of resolve.now.types tys.now) }
+    requires serves { ServesAll (shapes_of resolve.now.types tys.now) }
+    requires small { IsSmallRecord resolve.now.types tys.now }
+    requires few { length tys.now < 2 ^ 32 }
     ensures takes { IfOk result (λ values. TakesArgumentsOver B.meaning (shapes_of resolve.now.types tys.now) values bindgen.old bindgen.new) }
     ensures sends { OnOk result (Sends B.meaning resolve.now.types (take_code resolve.now.types tys.now) bindgen.old bindgen.new) }
 {
@@ -127,6 +133,7 @@ fn lift_arguments<B: Bindgen>(
     requires below { list_all (λ ty. type_below (length resolve.now.types) ty) tys.now ≡ true }
     requires direct { are_indirect (shapes_of resolve.now.types tys.now) ≡ false }
     requires arguments { IsCount B.meaning (B.meaning.arguments bindgen.old) (length (param_words (shapes_of resolve.now.types tys.now))) }
+    requires serves { ServesAll (shapes_of resolve.now.types tys.now) }
     ensures lifts { IfOk result (λ values. LiftsArguments B.meaning (shapes_of resolve.now.types tys.now) 0 values bindgen.old bindgen.new) }
     ensures sends { OnOk result (Sends B.meaning resolve.now.types (code.lift_arguments resolve.now.types 0 tys.now) bindgen.old bindgen.new) }
 {
@@ -177,10 +184,11 @@ fn give_answer<B: Bindgen>(
     requires well { IsWellFormed resolve.now }
     requires down { GoesDown resolve.now.types }
     requires below { IsTrue (payload_below (length resolve.now.types) ty) }
-    requires serves { B.meaning.exports bindgen.old ≡ true }
+    requires side { B.meaning.exports bindgen.old ≡ true }
     requires knows { B.meaning.knows bindgen.old resolve.now.types }
     requires due { length answer.now ≡ length (option_to_list ty) }
     requires retptr { retptr ≡ is_indirect (option_map (shape_of resolve.now.types) ty) }
+    requires serves { ServesResult (option_map (shape_of resolve.now.types) ty) }
     ensures gives { IfOk result (λ given. GivesAnswer B.meaning (option_map (shape_of resolve.now.types) ty) answer.now given bindgen.old bindgen.new) }
     ensures sends { OnOk result (Sends B.meaning resolve.now.types (give_code resolve.now.types ty) bindgen.old bindgen.new) }
 {
@@ -202,8 +210,10 @@ fn lower_answer<B: Bindgen>(
     requires well { IsWellFormed resolve.now }
     requires down { GoesDown resolve.now.types }
     requires below { IsTrue (type_below (length resolve.now.types) ty) }
-    requires serves { B.meaning.exports bindgen.old ≡ true }
+    requires side { B.meaning.exports bindgen.old ≡ true }
     requires due { length answer.now ≡ 1 }
+    requires serves { Serves (shape_of resolve.now.types ty) }
+    requires few { word_count resolve.now.types ty ≤ 16 }
     ensures lowers { IfOk result (λ given. LowersAnswer B.meaning (Some (shape_of resolve.now.types ty)) answer.now given bindgen.old bindgen.new) }
     ensures sends { OnOk result (Sends B.meaning resolve.now.types (lower_code resolve.now.types true ty) bindgen.old bindgen.new) }
 {
@@ -223,15 +233,17 @@ fn store_answer<B: Bindgen>(
     requires well { IsWellFormed resolve.now }
     requires down { GoesDown resolve.now.types }
     requires below { IsTrue (type_below (length resolve.now.types) ty) }
-    requires serves { B.meaning.exports bindgen.old ≡ true }
+    requires side { B.meaning.exports bindgen.old ≡ true }
     requires knows { B.meaning.knows bindgen.old resolve.now.types }
     requires due { length answer.now ≡ 1 }
+    requires serves { Serves (shape_of resolve.now.types ty) }
     ensures stores { IfOk result (λ given. StoresAnswer B.meaning (shape_of resolve.now.types ty) answer.now given bindgen.old bindgen.new) }
     ensures sends { OnOk result (Sends B.meaning resolve.now.types (ask_for (shape_of resolve.now.types ty) ++ store_code resolve.now.types true ty nowhere) bindgen.old bindgen.new) }
 {
     let address = point_at(resolve, bindgen, ty)?;
     let value = answer[0].copy(alloc)?;
-    store_type(alloc, resolve, bindgen, &address, NOWHERE, value, ty, true)?;
+    let start = start(bindgen);
+    store_type(alloc, resolve, bindgen, &address, start, value, ty, true)?;
     let given = only(alloc, address)?;
     Ok(given)
 }

@@ -1,6 +1,6 @@
 //! The whole code of an import.
 
-ghost use Rattle.std.specs.Prelude.{◌≡◌, ◌≤◌, ◌++◌, IsTrue, Some, true, false, length, IfOk, OnOk};
+ghost use Rattle.std.specs.Prelude.{◌≡◌, ◌<◌, ◌≤◌, ◌^◌, ◌++◌, IsTrue, Some, true, false, length, map, IfOk, OnOk};
 ghost use Rattle.std.specs.List.{list_all};
 ghost use Rattle.std.specs.Option.{option_map};
 ghost use Rattle.wit_model.specs.IndexRange.{function_in_range};
@@ -23,14 +23,15 @@ ghost use Rattle.abi_bindgen.specs.Laws.{IsCount};
 ghost use Rattle.abi_bindgen.specs.Lifts.{LiftsAnswer};
 ghost use Rattle.abi_bindgen.specs.Lowers.{LowersArguments};
 ghost use Rattle.abi_bindgen.specs.Sends.{Sends};
-ghost use Rattle.abi_driver.specs.WordCount.{word_count};
+ghost use Rattle.abi_bindgen.specs.Served.{Serves, ServesAll, ServesFunction, ServesResult};
+ghost use Rattle.abi_bindgen.specs.WordCount.{word_count};
+ghost use Rattle.abi_driver.specs.Low.{IsSmallRecord};
 
 use crate::calls::area::{point_at, store_arguments};
 use crate::lift::lift_flat;
 use crate::memory::lift_from_memory;
 use abi_bindgen::{
-    Bindgen, Instruction, Operand, argument, lower_flat, numbered, only, param_types, push_copies,
-    send,
+    Bindgen, Instruction, Operand, argument, lower_flat, only, param_types, push_copies, send,
 };
 use std::alloc::Global;
 use wit_layout::{AbiVariant, wasm_signature};
@@ -45,9 +46,11 @@ pub(super) fn call_import<B: Bindgen>(
 ) -> Result<(), OutOfMemory>
     requires well { IsWellFormed resolve.now }
     requires within { function_in_range resolve.now func.now ≡ true }
-    requires serves { B.meaning.imports bindgen.old ≡ true }
+    requires side { B.meaning.imports bindgen.old ≡ true }
     requires knows { B.meaning.knows bindgen.old resolve.now.types }
     requires arguments { IsCount B.meaning (B.meaning.arguments bindgen.old) (length func.now.params) }
+    requires serves { ServesFunction resolve.now.types func.now }
+    requires small { IsSmallRecord resolve.now.types (map (λ p. p.ty) func.now.params) }
     ensures calls { OnOk result (CallsImport B.meaning func.now (param_shapes resolve.now.types func.now) (result_shape resolve.now.types func.now) bindgen.old bindgen.new) }
     ensures sends { OnOk result (Sends B.meaning resolve.now.types (import_code resolve.now.types func.entry) bindgen.old bindgen.new) }
 {
@@ -68,7 +71,7 @@ pub(super) fn call_import<B: Bindgen>(
         func.result,
         retptr,
     )?;
-    let count = numbered(given.len())?;
+    let count = given.len() as u32;
     send(alloc, resolve, bindgen, Instruction::Return(count), given)?;
     Ok(())
 }
@@ -94,10 +97,13 @@ fn pass_arguments<B: Bindgen>(
     requires well { IsWellFormed resolve.now }
     requires down { GoesDown resolve.now.types }
     requires below { list_all (λ ty. type_below (length resolve.now.types) ty) tys.now ≡ true }
-    requires serves { B.meaning.imports bindgen.old ≡ true }
+    requires side { B.meaning.imports bindgen.old ≡ true }
     requires knows { B.meaning.knows bindgen.old resolve.now.types }
     requires arguments { IsCount B.meaning (B.meaning.arguments bindgen.old) (length tys.now) }
     requires indirect { indirect ≡ are_indirect (shapes_of resolve.now.types tys.now) }
+    requires serves { ServesAll (shapes_of resolve.now.types tys.now) }
+    requires small { IsSmallRecord resolve.now.types tys.now }
+    requires few { length tys.now < 2 ^ 32 }
     ensures passes { IfOk result (λ os. PassesArguments B.meaning (shapes_of resolve.now.types tys.now) os bindgen.old bindgen.new) }
     ensures sends { OnOk result (Sends B.meaning resolve.now.types (pass_code resolve.now.types tys.now) bindgen.old bindgen.new) }
 {
@@ -120,15 +126,17 @@ fn lower_arguments<B: Bindgen>(
     requires well { IsWellFormed resolve.now }
     requires down { GoesDown resolve.now.types }
     requires below { list_all (λ ty. type_below (length resolve.now.types) ty) tys.now ≡ true }
-    requires serves { B.meaning.imports bindgen.old ≡ true }
+    requires side { B.meaning.imports bindgen.old ≡ true }
     requires arguments { IsCount B.meaning (B.meaning.arguments bindgen.old) (length tys.now) }
+    requires serves { ServesAll (shapes_of resolve.now.types tys.now) }
+    requires few { length tys.now < 2 ^ 32 }
+    requires direct { are_indirect (shapes_of resolve.now.types tys.now) ≡ false }
     ensures lowers { IfOk result (λ os. LowersArguments B.meaning false (shapes_of resolve.now.types tys.now) 0 os bindgen.old bindgen.new) }
     ensures sends { OnOk result (Sends B.meaning resolve.now.types (code.lower_arguments resolve.now.types tys.now) bindgen.old bindgen.new) }
 {
     let mut all = Vec::new(alloc);
     for i in 0..tys.len() {
-        let number = numbered(i)?;
-        let value = argument(alloc, resolve, bindgen, number)?;
+        let value = argument(alloc, resolve, bindgen, i as u32)?;
         let words = lower_flat(alloc, resolve, bindgen, value, &tys[i], false)?;
         push_copies(&mut all, alloc, words.as_slice())?;
     }
@@ -144,6 +152,7 @@ fn point_at_result<B: Bindgen>(
     ty: Option<WitType>,
     retptr: bool,
 ) -> Result<List<B::Operand>, OutOfMemory>
+    requires below { IsTrue (payload_below (length resolve.now.types) ty) }
     requires knows { B.meaning.knows bindgen.old resolve.now.types }
     requires retptr { retptr ≡ is_indirect (option_map (shape_of resolve.now.types) ty) }
     ensures points { IfOk result (λ pointer. PointsAtResult B.meaning (option_map (shape_of resolve.now.types) ty) pointer bindgen.old bindgen.new) }
@@ -176,6 +185,7 @@ fn read_answer<B: Bindgen>(
     requires retptr { retptr ≡ is_indirect (option_map (shape_of resolve.now.types) ty) }
     requires pointed { retptr ≡ true → length pointer.now ≡ 1 }
     requires answered { retptr ≡ false → length words.now ≡ length (result_words (option_map (shape_of resolve.now.types) ty)) }
+    requires serves { ServesResult (option_map (shape_of resolve.now.types) ty) }
     ensures reads { IfOk result (λ given. ReadsAnswer B.meaning (option_map (shape_of resolve.now.types) ty) pointer.now words.now given bindgen.old bindgen.new) }
     ensures sends { OnOk result (Sends B.meaning resolve.now.types (read_code resolve.now.types ty) bindgen.old bindgen.new) }
 {
@@ -199,6 +209,7 @@ fn load_answer<B: Bindgen>(
     requires below { IsTrue (type_below (length resolve.now.types) ty) }
     requires knows { B.meaning.knows bindgen.old resolve.now.types }
     requires pointed { length pointer.now ≡ 1 }
+    requires serves { Serves (shape_of resolve.now.types ty) }
     ensures loads { IfOk result (λ given. LoadsAnswer B.meaning (shape_of resolve.now.types ty) pointer.now given bindgen.old bindgen.new) }
     ensures sends { OnOk result (Sends B.meaning resolve.now.types (load_code resolve.now.types ty nowhere) bindgen.old bindgen.new) }
 {
@@ -220,6 +231,7 @@ fn lift_answer<B: Bindgen>(
     requires below { IsTrue (type_below (length resolve.now.types) ty) }
     requires few { length words.now ≤ 16 }
     requires exact { length words.now ≡ word_count resolve.now.types ty }
+    requires serves { Serves (shape_of resolve.now.types ty) }
     ensures lifts { IfOk result (λ given. LiftsAnswer B.meaning (Some (shape_of resolve.now.types ty)) words.now given bindgen.old bindgen.new) }
     ensures sends { OnOk result (Sends B.meaning resolve.now.types (lift_code resolve.now.types ty) bindgen.old bindgen.new) }
 {

@@ -1,6 +1,6 @@
 //! The arguments of an export, where they stand in a record whose address is the one argument.
 
-ghost use Rattle.std.specs.Prelude.{◌≡◌, ◌<◌, true, length, IfOk, OnOk, IfSome};
+ghost use Rattle.std.specs.Prelude.{◌≡◌, ◌<◌, ◌^◌, true, length, IfOk, OnOk, IfSome};
 ghost use Rattle.std.specs.List.{list_all};
 ghost use Rattle.wit_model.specs.WellFormed.{IsWellFormed};
 ghost use Rattle.wit_model.specs.TypeOrder.{GoesDown, type_below};
@@ -12,15 +12,16 @@ ghost use Rattle.abi_bindgen.specs.Frees.{nowhere};
 ghost use Rattle.abi_bindgen.specs.Instructions.{shapes_of};
 ghost use Rattle.abi_driver.specs.Loads.{LoadsParts};
 ghost use Rattle.abi_bindgen.specs.Sends.{Sends};
+ghost use Rattle.abi_bindgen.specs.Served.{ServesAll};
+ghost use Rattle.abi_driver.specs.Low.{IsSmallRecord};
 
 use crate::dealloc::places::record_places;
 use crate::memory::load::load_type;
-use abi_bindgen::{Bindgen, Instruction, argument, numbered, only, send};
+use abi_bindgen::{Bindgen, Instruction, argument, only, send};
 use std::alloc::Global;
 use wit_model::{List, OutOfMemory, Resolve, WitType};
 
-/// The values of the arguments are loaded, and then the block of their record is freed. Of one that is too large the answer is
-/// `OutOfMemory`.
+/// The values of the arguments are loaded, and then the block of their record is freed.
 pub(super) fn load_arguments<B: Bindgen>(
     alloc: Global,
     resolve: &Resolve,
@@ -32,12 +33,15 @@ pub(super) fn load_arguments<B: Bindgen>(
     requires below { list_all (λ ty. type_below (length resolve.now.types) ty) tys.now ≡ true }
     requires knows { B.meaning.knows bindgen.old resolve.now.types }
     requires arguments { IfSome (B.meaning.arguments bindgen.old) (λ k. 0 < k) }
+    requires serves { ServesAll (shapes_of resolve.now.types tys.now) }
+    requires small { IsSmallRecord resolve.now.types tys.now }
+    requires few { length tys.now < 2 ^ 32 }
     ensures takes { IfOk result (λ values. TakesRecordOver B.meaning resolve.now.types (shapes_of resolve.now.types tys.now) values bindgen.old bindgen.new) }
     ensures sends { OnOk result (Sends B.meaning resolve.now.types (take_record_code resolve.now.types tys.now) bindgen.old bindgen.new) }
 {
     let address = argument(alloc, resolve, bindgen, 0)?;
     let parts = load_at(alloc, resolve, bindgen, tys, &address)?;
-    let count = numbered(parts.len())?;
+    let count = parts.len() as u32;
     let values = send(alloc, resolve, bindgen, Instruction::Flush(count), parts)?;
     free_arguments(alloc, resolve, bindgen, tys)?;
     Ok(values)
@@ -55,6 +59,8 @@ fn load_at<B: Bindgen>(
     requires down { GoesDown resolve.now.types }
     requires below { list_all (λ ty. type_below (length resolve.now.types) ty) tys.now ≡ true }
     requires knows { B.meaning.knows bindgen.old resolve.now.types }
+    requires serves { ServesAll (shapes_of resolve.now.types tys.now) }
+    requires small { IsSmallRecord resolve.now.types tys.now }
     ensures count { IfOk result (λ parts. length parts ≡ length tys.now) }
     ensures loads { IfOk result (λ parts. LoadsParts B.meaning (shapes_of resolve.now.types tys.now) address.now nowhere 0 parts bindgen.old bindgen.new) }
     ensures sends { OnOk result (Sends B.meaning resolve.now.types (code.load_arguments resolve.now.types tys.now) bindgen.old bindgen.new) }
@@ -80,13 +86,11 @@ fn free_arguments<B: Bindgen>(
     requires below { list_all (λ ty. type_below (length resolve.now.types) ty) tys.now ≡ true }
     requires knows { B.meaning.knows bindgen.old resolve.now.types }
     requires arguments { IfSome (B.meaning.arguments bindgen.old) (λ k. 0 < k) }
+    requires small { IsSmallRecord resolve.now.types tys.now }
     ensures frees { OnOk result (FreesArguments B.meaning resolve.now.types (shapes_of resolve.now.types tys.now) bindgen.old bindgen.new) }
     ensures sends { OnOk result (Sends B.meaning resolve.now.types (free_block_code (fields (shapes_of resolve.now.types tys.now))) bindgen.old bindgen.new) }
 {
     let sizes = bindgen.sizes();
-    if !sizes.fits_in_record(tys) {
-        return Err(OutOfMemory);
-    }
     let (size, align) = sizes.record_of(tys);
     let address = argument(alloc, resolve, bindgen, 0)?;
     let operands = only(alloc, address)?;

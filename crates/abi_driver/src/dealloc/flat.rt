@@ -1,8 +1,9 @@
 //! The blocks of values that core words represent are freed.
 
-ghost use Rattle.std.specs.Prelude.{◌≡◌, ◌<◌, ◌≤◌, ◌∷◌, ◌++◌, IsTrue, List, true, drop, length, IfOk, OnOk};
+ghost use Rattle.std.specs.Prelude.{◌≡◌, ◌<◌, ◌≤◌, ◌+◌, ◌∷◌, ◌++◌, IsTrue, List, true, drop, length, IfOk, OnOk};
 ghost use Rattle.std.specs.List.{list_all};
 ghost use Rattle.wit_model.specs.TypeOrder.{GoesDown, type_below};
+ghost use Rattle.wit_model.specs.WellFormed.{IsWellFormed};
 ghost use Rattle.wit_model.specs.declared.types.WitType.TheVariants.{Id, String};
 ghost use Rattle.wrapper_meaning.specs.Shape.{shape_at, shape_of};
 ghost use Rattle.wrapper_meaning.specs.Shape.Shape.{text};
@@ -10,11 +11,14 @@ ghost use Rattle.abi_bindgen.specs.Code.{each, free_words_code};
 ghost use Rattle.abi_bindgen.specs.Frees.{FreesAll, FreesFlat};
 ghost use Rattle.abi_bindgen.specs.Instructions.{shapes_of};
 ghost use Rattle.abi_bindgen.specs.Sends.{Sends};
+ghost use Rattle.abi_bindgen.specs.Served.{AreFreedByWords, IsFreedByWords, Serves, ServesAll};
+ghost use Rattle.abi_bindgen.specs.WordCount.{word_count, word_counts};
 
 use crate::lift::flags::flag_words;
 use crate::lift::leaf::scalar_lifting;
 use abi_bindgen::{Bindgen, Instruction, Operand, field_types, only, send};
 use std::alloc::Global;
+use wit_layout::flat_types;
 use wit_model::{OutOfMemory, Resolve, TypeDefKind, TypeId, WitType};
 
 /// The blocks of values of these types, which the words represent, one operand for each word.
@@ -25,16 +29,18 @@ pub(super) fn free_words<B: Bindgen>(
     words: &[B::Operand],
     bindgen: &mut B,
 ) -> Result<(), OutOfMemory>
+    requires well { IsWellFormed resolve.now }
     requires down { GoesDown resolve.now.types }
     requires below { list_all (λ ty. type_below (length resolve.now.types) ty) types.now ≡ true }
+    requires serves { ServesAll (shapes_of resolve.now.types types.now) }
+    requires freed { AreFreedByWords (shapes_of resolve.now.types types.now) }
+    requires few { length words.now ≤ 16 }
+    requires exact { length words.now ≡ word_counts resolve.now.types types.now }
     ensures frees { OnOk result (FreesAll B.meaning (shapes_of resolve.now.types types.now) words.now bindgen.old bindgen.new) }
     ensures sends { OnOk result (Sends B.meaning resolve.now.types (each (λ n ty. free_words_code resolve.now.types ty) 0 types.now) bindgen.old bindgen.new) }
 {
     let count = resolve.types.len();
-    let next = free_parts(alloc, resolve, bindgen, words, 0, count, types)?;
-    if next != words.len() {
-        return Err(OutOfMemory);
-    }
+    free_parts(alloc, resolve, bindgen, words, 0, count, types)?;
     Ok(())
 }
 
@@ -49,15 +55,20 @@ fn free_type<B: Bindgen>(
     at: usize,
     ty: WitType,
 ) -> Result<usize, OutOfMemory>
+    requires well { IsWellFormed resolve.now }
     requires down { GoesDown resolve.now.types }
     requires below { IsTrue (type_below (length resolve.now.types) ty) }
+    requires serves { Serves (shape_of resolve.now.types ty) }
+    requires freed { IsFreedByWords (shape_of resolve.now.types ty) }
+    requires few { word_count resolve.now.types ty ≤ 16 }
+    requires enough { at + word_count resolve.now.types ty ≤ length words.now }
+    ensures next { IfOk result (λ next. next ≡ at + word_count resolve.now.types ty) }
     ensures frees { IfOk result (λ next. (used : List B.Operand) × (drop at words.now ≡ used ++ drop next words.now)
         × FreesFlat B.meaning (shape_of resolve.now.types ty) used bindgen.old bindgen.new) }
     ensures sends { OnOk result (Sends B.meaning resolve.now.types (free_words_code resolve.now.types ty) bindgen.old bindgen.new) }
 {
     if let Some(_lift) = scalar_lifting(ty) {
-        let next = pass_words(words, at, 1)?;
-        return Ok(next);
+        return Ok(at + 1);
     }
     match ty {
         WitType::String => {
@@ -65,7 +76,7 @@ fn free_type<B: Bindgen>(
             Ok(next)
         }
         WitType::Id(id) => free_id(alloc, resolve, bindgen, words, at, id),
-        _ => Err(OutOfMemory),
+        _ => unreachable!(),
     }
 }
 
@@ -79,8 +90,14 @@ fn free_id<B: Bindgen>(
     at: usize,
     id: TypeId,
 ) -> Result<usize, OutOfMemory>
+    requires well { IsWellFormed resolve.now }
     requires down { GoesDown resolve.now.types }
     requires within { id.0 < length resolve.now.types }
+    requires serves { Serves (shape_at resolve.now.types id.0) }
+    requires freed { IsFreedByWords (shape_at resolve.now.types id.0) }
+    requires few { word_count resolve.now.types (Id id) ≤ 16 }
+    requires enough { at + word_count resolve.now.types (Id id) ≤ length words.now }
+    ensures next { IfOk result (λ next. next ≡ at + word_count resolve.now.types (Id id)) }
     ensures frees { IfOk result (λ next. (used : List B.Operand) × (drop at words.now ≡ used ++ drop next words.now)
         × FreesFlat B.meaning (shape_at resolve.now.types id.0) used bindgen.old bindgen.new) }
     ensures sends { OnOk result (Sends B.meaning resolve.now.types (free_words_code resolve.now.types (Id id)) bindgen.old bindgen.new) }
@@ -103,15 +120,14 @@ fn free_id<B: Bindgen>(
             let next = free_parts(alloc, resolve, bindgen, words, at, place, tys)?;
             Ok(next)
         }
-        TypeDefKind::Enum(_) => {
-            let next = pass_words(words, at, 1)?;
-            Ok(next)
+        TypeDefKind::Enum(_) => Ok(at + 1),
+        TypeDefKind::Flags(members) => Ok(at + flag_words(members.len())),
+        // no case has a block
+        TypeDefKind::Variant(_) | TypeDefKind::Option(_) | TypeDefKind::Result(_, _) => {
+            let flat = flat_types(resolve, &WitType::Id(id));
+            Ok(at + flat.count as usize)
         }
-        TypeDefKind::Flags(members) => {
-            let next = pass_words(words, at, flag_words(members.len()))?;
-            Ok(next)
-        }
-        _ => Err(OutOfMemory),
+        _ => unreachable!(),
     }
 }
 
@@ -126,9 +142,15 @@ fn free_parts<B: Bindgen>(
     place: usize,
     tys: &[WitType],
 ) -> Result<usize, OutOfMemory>
+    requires well { IsWellFormed resolve.now }
     requires down { GoesDown resolve.now.types }
     requires within { place ≤ length resolve.now.types }
     requires below { list_all (λ ty. type_below place ty) tys.now ≡ true }
+    requires serves { ServesAll (shapes_of resolve.now.types tys.now) }
+    requires freed { AreFreedByWords (shapes_of resolve.now.types tys.now) }
+    requires few { word_counts resolve.now.types tys.now ≤ 16 }
+    requires enough { at + word_counts resolve.now.types tys.now ≤ length words.now }
+    ensures next { IfOk result (λ next. next ≡ at + word_counts resolve.now.types tys.now) }
     ensures frees { IfOk result (λ next. (used : List B.Operand) × (drop at words.now ≡ used ++ drop next words.now)
         × FreesAll B.meaning (shapes_of resolve.now.types tys.now) used bindgen.old bindgen.new) }
     ensures sends { OnOk result (Sends B.meaning resolve.now.types (each (λ n ty. free_words_code resolve.now.types ty) 0 tys.now) bindgen.old bindgen.new) }
@@ -140,16 +162,6 @@ fn free_parts<B: Bindgen>(
     Ok(next)
 }
 
-/// Behind so many words from a place on.
-fn pass_words<O: Operand>(words: &[O], at: usize, count: usize) -> Result<usize, OutOfMemory>
-    ensures { IfOk result (λ next. (used : List O) × (drop at words.now ≡ used ++ drop next words.now) × (length used ≡ count)) }
-{
-    if words.len() < count || at > words.len() - count {
-        return Err(OutOfMemory);
-    }
-    Ok(at + count)
-}
-
 /// The block of the text that the address and the length at a place represent.
 fn free_text<B: Bindgen>(
     alloc: Global,
@@ -158,13 +170,12 @@ fn free_text<B: Bindgen>(
     words: &[B::Operand],
     at: usize,
 ) -> Result<usize, OutOfMemory>
+    requires { at + 2 ≤ length words.now }
+    ensures next { IfOk result (λ next. next ≡ at + 2) }
     ensures frees { IfOk result (λ next. (used : List B.Operand) × (drop at words.now ≡ used ++ drop next words.now)
         × FreesFlat B.meaning text used bindgen.old bindgen.new) }
     ensures sends { OnOk result (Sends B.meaning resolve.now.types (free_words_code resolve.now.types String) bindgen.old bindgen.new) }
 {
-    if words.len() < 2 || at > words.len() - 2 {
-        return Err(OutOfMemory);
-    }
     let address = words[at].copy(alloc)?;
     let length = words[at + 1].copy(alloc)?;
     let mut operands = only(alloc, address)?;

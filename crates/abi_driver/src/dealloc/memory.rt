@@ -14,7 +14,9 @@ ghost use Rattle.abi_bindgen.specs.HasList.{IsKindOf};
 ghost use Rattle.abi_bindgen.specs.Instructions.{has_cases, shapes_of};
 ghost use Rattle.abi_bindgen.specs.Places.{HasParts};
 ghost use Rattle.abi_bindgen.specs.Sends.{Sends};
+ghost use Rattle.abi_bindgen.specs.Served.{Serves, ServesAll};
 ghost use Rattle.abi_bindgen.specs.Sent.{closes, opens};
+ghost use Rattle.abi_driver.specs.Low.{EachEndsLow, EndsLow, IsSmallRecord};
 
 use crate::dealloc::places::record_places;
 use crate::dealloc::variants::run_case;
@@ -23,7 +25,7 @@ use crate::lift::leaf::scalar_lifting;
 use crate::memory::place::{behind_pointer, part_place};
 use crate::memory::variants::{case_payloads, close, empty_block, load_tag, payload_place};
 use crate::memory::word::load_word;
-use abi_bindgen::{Bindgen, Instruction, field_types, numbered, only, send};
+use abi_bindgen::{Bindgen, Instruction, field_types, only, send};
 use std::alloc::Global;
 use wit_model::{ArchitectureSize, OutOfMemory, Resolve, TypeDefKind, TypeId, WitType};
 
@@ -38,6 +40,8 @@ pub(super) fn free_record<B: Bindgen>(
     requires down { GoesDown resolve.now.types }
     requires below { list_all (λ ty. type_below (length resolve.now.types) ty) types.now ≡ true }
     requires knows { B.meaning.knows bindgen.old resolve.now.types }
+    requires serves { ServesAll (shapes_of resolve.now.types types.now) }
+    requires small { IsSmallRecord resolve.now.types types.now }
     ensures frees { OnOk result (FreesParts B.meaning (shapes_of resolve.now.types types.now) address.now nowhere 0 bindgen.old bindgen.new) }
     ensures sends { OnOk result (Sends B.meaning resolve.now.types (each (λ n ty. free_code resolve.now.types ty (place_in (record_of resolve.now.types types.now) n)) 0 types.now) bindgen.old bindgen.new) }
 {
@@ -63,6 +67,8 @@ pub(crate) fn free_type<B: Bindgen>(
     requires down { GoesDown resolve.now.types }
     requires below { IsTrue (type_below (length resolve.now.types) ty) }
     requires knows { B.meaning.knows bindgen.old resolve.now.types }
+    requires serves { Serves (shape_of resolve.now.types ty) }
+    requires low { EndsLow (shape_of resolve.now.types ty) offset }
     ensures frees { OnOk result (FreesInMemory B.meaning (shape_of resolve.now.types ty) address.now offset bindgen.old bindgen.new) }
     ensures sends { OnOk result (Sends B.meaning resolve.now.types (free_code resolve.now.types ty offset) bindgen.old bindgen.new) }
 {
@@ -72,7 +78,7 @@ pub(crate) fn free_type<B: Bindgen>(
     match ty {
         WitType::String => free_text(alloc, resolve, bindgen, address, offset),
         WitType::Id(id) => free_id(alloc, resolve, bindgen, address, offset, id),
-        _ => Err(OutOfMemory),
+        _ => unreachable!(),
     }
 }
 
@@ -89,6 +95,8 @@ fn free_id<B: Bindgen>(
     requires down { GoesDown resolve.now.types }
     requires within { id.0 < length resolve.now.types }
     requires knows { B.meaning.knows bindgen.old resolve.now.types }
+    requires serves { Serves (shape_at resolve.now.types id.0) }
+    requires low { EndsLow (shape_at resolve.now.types id.0) offset }
     ensures frees { OnOk result (FreesInMemory B.meaning (shape_at resolve.now.types id.0) address.now offset bindgen.old bindgen.new) }
     ensures sends { OnOk result (Sends B.meaning resolve.now.types (free_code resolve.now.types (Id id) offset) bindgen.old bindgen.new) }
 {
@@ -118,7 +126,7 @@ fn free_id<B: Bindgen>(
         TypeDefKind::Result(_, _) => {
             free_variant(alloc, resolve, bindgen, address, offset, id, kind)
         }
-        _ => Err(OutOfMemory),
+        _ => unreachable!(),
     }
 }
 
@@ -138,6 +146,8 @@ fn free_variant<B: Bindgen>(
     requires here { IsKindOf resolve.now.types id.0 kind.now }
     requires cases { has_cases kind.now ≡ true }
     requires knows { B.meaning.knows bindgen.old resolve.now.types }
+    requires serves { Serves (shape_at resolve.now.types id.0) }
+    requires low { EndsLow (shape_at resolve.now.types id.0) offset }
     ensures frees { OnOk result (FreesInMemory B.meaning (shape_at resolve.now.types id.0) address.now offset bindgen.old bindgen.new) }
     ensures sends { OnOk result (Sends B.meaning resolve.now.types (free_code resolve.now.types (Id id) offset) bindgen.old bindgen.new) }
 {
@@ -145,9 +155,9 @@ fn free_variant<B: Bindgen>(
         return Ok(());
     }
     let payloads = case_payloads(alloc, kind)?;
-    let place = payload_place(bindgen, id, offset)?;
+    let place = payload_place(bindgen, id, offset);
     let tys = payloads.as_slice();
-    let count = numbered(tys.len())?;
+    let count = tys.len() as u32;
     let tag = load_tag(alloc, resolve, bindgen, address, offset, tys.len())?;
     free_cases(alloc, resolve, bindgen, address, place, id, tys)?;
     run_case(alloc, resolve, bindgen, tag, count)?;
@@ -169,6 +179,8 @@ fn free_cases<B: Bindgen>(
     requires within { id.0 < length resolve.now.types }
     requires below { list_all (λ p. payload_below id.0 p) payloads.now ≡ true }
     requires knows { B.meaning.knows bindgen.old resolve.now.types }
+    requires serves { ServesAll (payloads_in (shapes resolve.now.types) payloads.now) }
+    requires low { EachEndsLow (payloads_in (shapes resolve.now.types) payloads.now) place }
     ensures frees { OnOk result (FreesCases B.meaning (payloads_in (shapes resolve.now.types) payloads.now) address.now place bindgen.old bindgen.new) }
     ensures sends { OnOk result (Sends B.meaning resolve.now.types (in_blocks (λ n p. at_payload place (option_map (free_code resolve.now.types) p)) 0 payloads.now) bindgen.old bindgen.new) }
 {
@@ -193,6 +205,8 @@ fn free_case<B: Bindgen>(
     requires within { id.0 < length resolve.now.types }
     requires below { payload_below id.0 payload ≡ true }
     requires knows { B.meaning.knows bindgen.old resolve.now.types }
+    requires serves { Serves (payload_in (shapes resolve.now.types) payload) }
+    requires low { EndsLow (payload_in (shapes resolve.now.types) payload) place }
     ensures frees { OnOk result (FreesPayload B.meaning (payload_in (shapes resolve.now.types) payload) address.now place bindgen.old bindgen.new) }
     ensures sends { OnOk result (Sends B.meaning resolve.now.types (opens ∷ at_payload place (option_map (free_code resolve.now.types) payload) ++ closes ∷ []) bindgen.old bindgen.new) }
 {
@@ -223,6 +237,8 @@ fn free_payload<B: Bindgen>(
     requires within { id.0 < length resolve.now.types }
     requires below { type_below id.0 ty ≡ true }
     requires knows { B.meaning.knows bindgen.old resolve.now.types }
+    requires serves { Serves (shape_of resolve.now.types ty) }
+    requires low { EndsLow (shape_of resolve.now.types ty) place }
     ensures frees { OnOk result (FreesPayload B.meaning (shape_of resolve.now.types ty) address.now place bindgen.old bindgen.new) }
     ensures sends { OnOk result (Sends B.meaning resolve.now.types (opens ∷ free_code resolve.now.types ty place ++ closes ∷ []) bindgen.old bindgen.new) }
 {
@@ -248,11 +264,13 @@ fn free_parts<B: Bindgen>(
     requires below { list_all (λ ty. type_below id.0 ty) tys.now ≡ true }
     requires parts { HasParts resolve.now.types id.0 tys.now }
     requires knows { B.meaning.knows bindgen.old resolve.now.types }
+    requires serves { ServesAll (shapes_of resolve.now.types tys.now) }
+    requires low { EndsLow (shape_at resolve.now.types id.0) offset }
     ensures frees { OnOk result (FreesParts B.meaning (shapes_of resolve.now.types tys.now) address.now offset 0 bindgen.old bindgen.new) }
     ensures sends { OnOk result (Sends B.meaning resolve.now.types (each (λ n ty. free_code resolve.now.types ty (beyond offset (place_in (tree_at resolve.now.types id.0) n))) 0 tys.now) bindgen.old bindgen.new) }
 {
     for i in 0..tys.len() {
-        let place = part_place(bindgen, id, i, offset)?;
+        let place = part_place(bindgen, id, i, offset);
         free_type(alloc, resolve, bindgen, address, place, tys[i])?;
     }
     Ok(())
@@ -266,10 +284,11 @@ fn free_text<B: Bindgen>(
     address: &B::Operand,
     offset: ArchitectureSize,
 ) -> Result<(), OutOfMemory>
+    requires low { EndsLow text offset }
     ensures frees { OnOk result (FreesInMemory B.meaning text address.now offset bindgen.old bindgen.new) }
     ensures sends { OnOk result (Sends B.meaning resolve.now.types (free_code resolve.now.types String offset) bindgen.old bindgen.new) }
 {
-    let behind = behind_pointer(offset)?;
+    let behind = behind_pointer(offset);
     let place = load_word(
         alloc,
         resolve,

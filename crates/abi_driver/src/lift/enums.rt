@@ -1,6 +1,6 @@
 //! A tag becomes a value of an enum.
 
-ghost use Rattle.std.specs.Prelude.{◌≡◌, ◌<◌, ◌+◌, ◌++◌, length, List, drop, IfOk, OnOk};
+ghost use Rattle.std.specs.Prelude.{◌≡◌, ◌<◌, ◌≤◌, ◌+◌, ◌^◌, ◌++◌, length, List, drop, IfOk, OnOk};
 ghost use Rattle.wit_model.specs.TypeOrder.{GoesDown};
 ghost use Rattle.wit_model.specs.declared.types.TypeDefKind.TheVariants as kind;
 ghost use Rattle.wit_model.specs.declared.types.WitType.TheVariants.{Id};
@@ -11,7 +11,7 @@ ghost use Rattle.abi_bindgen.specs.Lifts.{LiftsFlat};
 ghost use Rattle.abi_bindgen.specs.Sends.{Sends};
 
 use crate::lift::Lifted;
-use abi_bindgen::{Bindgen, Instruction, MOST_CASES, Operand, only, send_one};
+use abi_bindgen::{Bindgen, Instruction, Operand, only, send_one};
 use std::alloc::Global;
 use wit_model::{List, Member, OutOfMemory, Resolve, TypeId};
 
@@ -27,15 +27,13 @@ pub(crate) fn lift_enum<B: Bindgen>(
 ) -> Result<Lifted<B::Operand>, OutOfMemory>
     requires down { GoesDown resolve.now.types }
     requires here { IsKindOf resolve.now.types id.0 (kind.Enum members.now) }
+    requires few { length members.now ≤ 2 ^ 31 }
     requires enough { at < length words.now }
     ensures next { IfOk result (λ r. r.next ≡ at + 1) }
     ensures lifts { IfOk result (λ r. (used : List B.Operand) × (drop at words.now ≡ used ++ drop r.next words.now)
         × LiftsFlat B.meaning (shape_at resolve.now.types id.0) used r.operand bindgen.old bindgen.new) }
     ensures sends { OnOk result (Sends B.meaning resolve.now.types (lift_code resolve.now.types (Id id)) bindgen.old bindgen.new) }
 {
-    if members.len() > MOST_CASES {
-        return Err(OutOfMemory);
-    }
     let tag = words[at].copy(alloc)?;
     let operands = only(alloc, tag)?;
     let operand = send_one(alloc, resolve, bindgen, Instruction::EnumLift(id), operands)?;

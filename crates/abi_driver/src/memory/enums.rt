@@ -1,6 +1,6 @@
 //! Enums are put into memory, and read from it.
 
-ghost use Rattle.std.specs.Prelude.{◌≡◌, Bool, IfOk, OnOk};
+ghost use Rattle.std.specs.Prelude.{◌≡◌, ◌≤◌, ◌^◌, Bool, length, IfOk, OnOk};
 ghost use Rattle.wit_model.specs.TypeOrder.{GoesDown};
 ghost use Rattle.wit_model.specs.declared.types.TypeDefKind.TheVariants as kind;
 ghost use Rattle.wit_model.specs.declared.types.WitType.TheVariants.{Id};
@@ -12,9 +12,7 @@ ghost use Rattle.abi_bindgen.specs.Sends.{Sends};
 ghost use Rattle.abi_driver.specs.Stores.{LowersToMemory};
 
 use crate::memory::word::{load_word, store_word};
-use abi_bindgen::{
-    Bindgen, Instruction, MOST_CASES, Operand, lower_by, only, send_one, tag_load, tag_store,
-};
+use abi_bindgen::{Bindgen, Instruction, Operand, lower_by, only, send_one, tag_load, tag_store};
 use std::alloc::Global;
 use wit_model::{ArchitectureSize, List, Member, OutOfMemory, Resolve, TypeId};
 
@@ -31,13 +29,11 @@ pub(super) fn store_enum<B: Bindgen>(
 ) -> Result<(), OutOfMemory>
     requires down { GoesDown resolve.now.types }
     requires here { IsKindOf resolve.now.types id.0 (kind.Enum members.now) }
+    requires most { length members.now ≤ 2 ^ 31 }
     ensures stores { (realloc : Bool) → OnOk result (LowersToMemory B.meaning realloc (shape_at resolve.now.types id.0) value address.now offset bindgen.old bindgen.new) }
     ensures sends { (realloc : Bool) → OnOk result (Sends B.meaning resolve.now.types (store_code resolve.now.types realloc (Id id) offset) bindgen.old bindgen.new) }
 {
     let cases = members.len();
-    if cases > MOST_CASES {
-        return Err(OutOfMemory);
-    }
     let store = tag_store(cases, offset);
     let words = lower_by(alloc, resolve, bindgen, value, Instruction::EnumLower(id))?;
     let tag = words.as_slice()[0].copy(alloc)?;

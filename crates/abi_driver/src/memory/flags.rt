@@ -10,6 +10,7 @@ ghost use Rattle.abi_bindgen.specs.Code.{load_code, store_code};
 ghost use Rattle.abi_bindgen.specs.HasList.{IsKindOf};
 ghost use Rattle.abi_driver.specs.Loads.{LiftsFromMemory};
 ghost use Rattle.abi_bindgen.specs.Sends.{Sends};
+ghost use Rattle.abi_driver.specs.Low.{EndsLow};
 ghost use Rattle.abi_driver.specs.Stores.{LowersToMemory};
 
 use crate::lift::flags::flag_words;
@@ -45,6 +46,7 @@ pub(super) fn store_flags<B: Bindgen>(
 ) -> Result<(), OutOfMemory>
     requires down { GoesDown resolve.now.types }
     requires here { IsKindOf resolve.now.types id.0 (kind.Flags members.now) }
+    requires low { EndsLow (shape_at resolve.now.types id.0) offset }
     ensures stores { (realloc : Bool) → OnOk result (LowersToMemory B.meaning realloc (shape_at resolve.now.types id.0) value address.now offset bindgen.old bindgen.new) }
     ensures sends { (realloc : Bool) → OnOk result (Sends B.meaning resolve.now.types (store_code resolve.now.types realloc (Id id) offset) bindgen.old bindgen.new) }
 {
@@ -54,7 +56,7 @@ pub(super) fn store_flags<B: Bindgen>(
     let count = words.len();
     for behind in 0..count {
         let nth = count - 1 - behind;
-        let place = word_offset(offset, nth)?;
+        let place = word_offset(offset, nth);
         let word = words[nth].copy(alloc)?;
         let store = number_store(grain, place);
         store_word(alloc, resolve, bindgen, word, address, store)?;
@@ -74,6 +76,7 @@ pub(super) fn load_flags<B: Bindgen>(
 ) -> Result<B::Operand, OutOfMemory>
     requires down { GoesDown resolve.now.types }
     requires here { IsKindOf resolve.now.types id.0 (kind.Flags members.now) }
+    requires low { EndsLow (shape_at resolve.now.types id.0) offset }
     ensures loads { IfOk result (λ r. LiftsFromMemory B.meaning (shape_at resolve.now.types id.0) address.now offset r bindgen.old bindgen.new) }
     ensures sends { OnOk result (Sends B.meaning resolve.now.types (load_code resolve.now.types (Id id) offset) bindgen.old bindgen.new) }
 {
@@ -82,7 +85,7 @@ pub(super) fn load_flags<B: Bindgen>(
     let count = flag_words(flags);
     let mut words = List::new(alloc);
     for nth in 0..count {
-        let place = word_offset(offset, nth)?;
+        let place = word_offset(offset, nth);
         let load = number_load(grain, place);
         let word = load_word(alloc, resolve, bindgen, address, load)?;
         words.push(word)?;

@@ -13,15 +13,17 @@ ghost use Rattle.abi_bindgen.specs.HasList.{IsKindOf};
 ghost use Rattle.abi_bindgen.specs.Instructions.{has_cases, lifting, shapes_of};
 ghost use Rattle.abi_driver.specs.LoadedCases.{LoadsCase, LoadsCases};
 ghost use Rattle.abi_driver.specs.Loads.{LiftsFromMemory, LoadsParts};
+ghost use Rattle.abi_driver.specs.Low.{EachEndsLow, EndsLow};
 ghost use Rattle.abi_bindgen.specs.Places.{HasParts};
 ghost use Rattle.abi_bindgen.specs.Sends.{Sends};
+ghost use Rattle.abi_bindgen.specs.Served.{Serves, ServesAll};
 ghost use Rattle.abi_bindgen.specs.Sent.{closes, opens};
 
 use crate::lift::leaf::scalar_lifting;
 use crate::lift::variants::case_lifting;
 use crate::memory::enums::load_enum;
 use crate::memory::flags::load_flags;
-use crate::memory::place::{NOWHERE, behind_pointer, part_place};
+use crate::memory::place::{NOWHERE, behind_pointer, part_place, start};
 use crate::memory::variants::{case_payloads, empty_block, load_tag, payload_place};
 use crate::memory::word::{load_word, scalar_load};
 use abi_bindgen::{Bindgen, Instruction, Operand, field_types, only, part_count, send_one};
@@ -32,7 +34,7 @@ use wit_model::{ArchitectureSize, List, OutOfMemory, Resolve, TypeDefKind, TypeI
 /// is taken over.
 ///
 /// So far it is a scalar, a text, an enum or flags, or a record, a tuple, a variant, an option or a result of such, also through
-/// aliases; of a type that holds any other the answer is `OutOfMemory`, as where memory is wanting.
+/// aliases. The answer is `OutOfMemory` where there is no memory for the code, or for the operands.
 pub fn lift_from_memory<B: Bindgen>(
     alloc: Global,
     resolve: &Resolve,
@@ -44,10 +46,12 @@ pub fn lift_from_memory<B: Bindgen>(
     requires down { GoesDown resolve.now.types }
     requires below { IsTrue (type_below (length resolve.now.types) ty.now) }
     requires knows { B.meaning.knows bindgen.old resolve.now.types }
+    requires serves { Serves (shape_of resolve.now.types ty.now) }
     ensures loads { IfOk result (λ r. LiftsFromMemory B.meaning (shape_of resolve.now.types ty.now) address NOWHERE r bindgen.old bindgen.new) }
     ensures sends { OnOk result (Sends B.meaning resolve.now.types (load_code resolve.now.types ty.now NOWHERE) bindgen.old bindgen.new) }
 {
-    load_type(alloc, resolve, bindgen, &address, NOWHERE, *ty)
+    let start = start(bindgen);
+    load_type(alloc, resolve, bindgen, &address, start, *ty)
 }
 
 /// The same at an offset, by a type that was read.
@@ -65,6 +69,8 @@ pub(crate) fn load_type<B: Bindgen>(
     requires down { GoesDown resolve.now.types }
     requires below { IsTrue (type_below (length resolve.now.types) ty) }
     requires knows { B.meaning.knows bindgen.old resolve.now.types }
+    requires serves { Serves (shape_of resolve.now.types ty) }
+    requires low { EndsLow (shape_of resolve.now.types ty) offset }
     ensures loads { IfOk result (λ r. LiftsFromMemory B.meaning (shape_of resolve.now.types ty) address.now offset r bindgen.old bindgen.new) }
     ensures sends { OnOk result (Sends B.meaning resolve.now.types (load_code resolve.now.types ty offset) bindgen.old bindgen.new) }
 {
@@ -74,7 +80,7 @@ pub(crate) fn load_type<B: Bindgen>(
     match ty {
         WitType::String => load_text(alloc, resolve, bindgen, address, offset),
         WitType::Id(id) => load_id(alloc, resolve, bindgen, address, offset, id),
-        _ => Err(OutOfMemory),
+        _ => unreachable!(),
     }
 }
 
@@ -92,6 +98,8 @@ fn load_id<B: Bindgen>(
     requires down { GoesDown resolve.now.types }
     requires within { id.0 < length resolve.now.types }
     requires knows { B.meaning.knows bindgen.old resolve.now.types }
+    requires serves { Serves (shape_at resolve.now.types id.0) }
+    requires low { EndsLow (shape_at resolve.now.types id.0) offset }
     ensures loads { IfOk result (λ r. LiftsFromMemory B.meaning (shape_at resolve.now.types id.0) address.now offset r bindgen.old bindgen.new) }
     ensures sends { OnOk result (Sends B.meaning resolve.now.types (load_code resolve.now.types (Id id) offset) bindgen.old bindgen.new) }
 {
@@ -109,7 +117,7 @@ fn load_id<B: Bindgen>(
         }
         TypeDefKind::Tuple(members) => {
             let tys = members.as_slice();
-            let inst = Instruction::TupleLift(part_count(tys)?);
+            let inst = Instruction::TupleLift(part_count(tys));
             let parts = load_parts(alloc, resolve, bindgen, address, offset, id, tys)?;
             let operand = send_one(alloc, resolve, bindgen, inst, parts)?;
             Ok(operand)
@@ -125,7 +133,7 @@ fn load_id<B: Bindgen>(
         TypeDefKind::Result(_, _) => {
             load_variant(alloc, resolve, bindgen, address, offset, id, kind)
         }
-        _ => Err(OutOfMemory),
+        _ => unreachable!(),
     }
 }
 
@@ -145,12 +153,14 @@ fn load_variant<B: Bindgen>(
     requires here { IsKindOf resolve.now.types id.0 kind.now }
     requires cases { has_cases kind.now ≡ true }
     requires knows { B.meaning.knows bindgen.old resolve.now.types }
+    requires serves { Serves (shape_at resolve.now.types id.0) }
+    requires low { EndsLow (shape_at resolve.now.types id.0) offset }
     ensures loads { IfOk result (λ r. LiftsFromMemory B.meaning (shape_at resolve.now.types id.0) address.now offset r bindgen.old bindgen.new) }
     ensures sends { OnOk result (Sends B.meaning resolve.now.types (load_code resolve.now.types (Id id) offset) bindgen.old bindgen.new) }
 {
     let payloads = case_payloads(alloc, kind)?;
     let lift = case_lifting(kind, id);
-    let place = payload_place(bindgen, id, offset)?;
+    let place = payload_place(bindgen, id, offset);
     let tys = payloads.as_slice();
     let tag = load_tag(alloc, resolve, bindgen, address, offset, tys.len())?;
     load_cases(alloc, resolve, bindgen, address, place, id, tys)?;
@@ -175,6 +185,8 @@ fn load_cases<B: Bindgen>(
     requires within { id.0 < length resolve.now.types }
     requires below { list_all (λ p. payload_below id.0 p) payloads.now ≡ true }
     requires knows { B.meaning.knows bindgen.old resolve.now.types }
+    requires serves { ServesAll (payloads_in (shapes resolve.now.types) payloads.now) }
+    requires low { EachEndsLow (payloads_in (shapes resolve.now.types) payloads.now) place }
     ensures loads { OnOk result (LoadsCases B.meaning (map (λ p. length (option_to_list p)) payloads.now) (payloads_in (shapes resolve.now.types) payloads.now) address.now place bindgen.old bindgen.new) }
     ensures sends { OnOk result (Sends B.meaning resolve.now.types (in_blocks (λ n p. at_payload place (option_map (load_code resolve.now.types) p)) 0 payloads.now) bindgen.old bindgen.new) }
 {
@@ -200,6 +212,8 @@ fn load_case<B: Bindgen>(
     requires within { id.0 < length resolve.now.types }
     requires below { payload_below id.0 payload ≡ true }
     requires knows { B.meaning.knows bindgen.old resolve.now.types }
+    requires serves { Serves (payload_in (shapes resolve.now.types) payload) }
+    requires low { EndsLow (payload_in (shapes resolve.now.types) payload) place }
     ensures loads { OnOk result (LoadsCase B.meaning (length (option_to_list payload)) (payload_in (shapes resolve.now.types) payload) address.now place bindgen.old bindgen.new) }
     ensures sends { OnOk result (Sends B.meaning resolve.now.types (opens ∷ at_payload place (option_map (load_code resolve.now.types) payload) ++ closes ∷ []) bindgen.old bindgen.new) }
 {
@@ -231,6 +245,8 @@ fn load_payload<B: Bindgen>(
     requires within { id.0 < length resolve.now.types }
     requires below { type_below id.0 ty ≡ true }
     requires knows { B.meaning.knows bindgen.old resolve.now.types }
+    requires serves { Serves (shape_of resolve.now.types ty) }
+    requires low { EndsLow (shape_of resolve.now.types ty) place }
     ensures loads { OnOk result (LoadsCase B.meaning 1 (shape_of resolve.now.types ty) address.now place bindgen.old bindgen.new) }
     ensures sends { OnOk result (Sends B.meaning resolve.now.types (opens ∷ load_code resolve.now.types ty place ++ closes ∷ []) bindgen.old bindgen.new) }
 {
@@ -258,13 +274,15 @@ fn load_parts<B: Bindgen>(
     requires below { list_all (λ ty. type_below id.0 ty) tys.now ≡ true }
     requires parts { HasParts resolve.now.types id.0 tys.now }
     requires knows { B.meaning.knows bindgen.old resolve.now.types }
+    requires serves { ServesAll (shapes_of resolve.now.types tys.now) }
+    requires low { EndsLow (shape_at resolve.now.types id.0) offset }
     ensures count { IfOk result (λ parts. length parts ≡ length tys.now) }
     ensures loads { IfOk result (λ parts. LoadsParts B.meaning (shapes_of resolve.now.types tys.now) address.now offset 0 parts bindgen.old bindgen.new) }
     ensures sends { OnOk result (Sends B.meaning resolve.now.types (each (λ n ty. load_code resolve.now.types ty (beyond offset (place_in (tree_at resolve.now.types id.0) n))) 0 tys.now) bindgen.old bindgen.new) }
 {
     let mut parts = List::new(alloc);
     for i in 0..tys.len() {
-        let place = part_place(bindgen, id, i, offset)?;
+        let place = part_place(bindgen, id, i, offset);
         let part = load_type(alloc, resolve, bindgen, address, place, tys[i])?;
         parts.push(part)?;
     }
@@ -302,10 +320,11 @@ fn load_text<B: Bindgen>(
     address: &B::Operand,
     offset: ArchitectureSize,
 ) -> Result<B::Operand, OutOfMemory>
+    requires low { EndsLow text offset }
     ensures loads { IfOk result (λ r. LiftsFromMemory B.meaning text address.now offset r bindgen.old bindgen.new) }
     ensures sends { OnOk result (Sends B.meaning resolve.now.types (load_code resolve.now.types String offset) bindgen.old bindgen.new) }
 {
-    let behind = behind_pointer(offset)?;
+    let behind = behind_pointer(offset);
     let place = load_word(
         alloc,
         resolve,

@@ -15,19 +15,21 @@ ghost use Rattle.abi_bindgen.specs.Instructions.{IsSide, has_cases, lowering, sh
 ghost use Rattle.abi_bindgen.specs.ScalarTouches.{scalar_store};
 ghost use Rattle.abi_bindgen.specs.Places.{HasParts};
 ghost use Rattle.abi_bindgen.specs.Sends.{Sends};
+ghost use Rattle.abi_bindgen.specs.Served.{Serves, ServesAll};
 ghost use Rattle.abi_bindgen.specs.Sent.{closes, opens};
+ghost use Rattle.abi_driver.specs.Low.{EachEndsLow, EndsLow};
 ghost use Rattle.abi_driver.specs.StoredCases.{StoresCase, StoresCases};
 ghost use Rattle.abi_driver.specs.Stores.{LowersToMemory, StoresParts};
 
 use crate::memory::enums::store_enum;
 use crate::memory::flags::store_flags;
-use crate::memory::place::{NOWHERE, behind_pointer, part_place};
+use crate::memory::place::{NOWHERE, behind_pointer, part_place, start};
 use crate::memory::variants::{
     case_payloads, close, payload, payload_place, store_bare, store_tag,
 };
 use crate::memory::word::{scalar_store, store_word};
 use abi_bindgen::{
-    Bindgen, Instruction, MOST_CASES, Operand, case_lowering, field_types, lower_by, part_count,
+    Bindgen, Instruction, Operand, case_lowering, field_types, lower_by, part_count,
     scalar_lowering,
 };
 use std::alloc::Global;
@@ -36,8 +38,8 @@ use wit_model::{ArchitectureSize, List, OutOfMemory, Resolve, TypeDefKind, TypeI
 /// Puts the value that an operand denotes at the address that another denotes, after `lower_to_memory` of wit-bindgen-core.
 ///
 /// Without `realloc` the value is lent, and with it given away. So far it is a scalar, a text, an enum or flags, or a record, a tuple, a
-/// variant, an option or a result of such, also through aliases; of a type that holds any other the answer is `OutOfMemory`, as where
-/// memory is wanting.
+/// variant, an option or a result of such, also through aliases. The answer is `OutOfMemory` where there is no memory for the code, or for the
+/// operands.
 pub fn lower_to_memory<B: Bindgen>(
     alloc: Global,
     resolve: &Resolve,
@@ -52,11 +54,13 @@ pub fn lower_to_memory<B: Bindgen>(
     requires below { IsTrue (type_below (length resolve.now.types) ty.now) }
     requires side { IsSide B.meaning realloc bindgen.old }
     requires knows { B.meaning.knows bindgen.old resolve.now.types }
+    requires serves { Serves (shape_of resolve.now.types ty.now) }
     ensures stores { OnOk result (LowersToMemory B.meaning realloc (shape_of resolve.now.types ty.now) value address NOWHERE bindgen.old bindgen.new) }
     ensures sends { OnOk result (Sends B.meaning resolve.now.types (store_code resolve.now.types realloc ty.now NOWHERE) bindgen.old bindgen.new) }
 {
+    let start = start(bindgen);
     store_type(
-        alloc, resolve, bindgen, &address, NOWHERE, value, *ty, realloc,
+        alloc, resolve, bindgen, &address, start, value, *ty, realloc,
     )
 }
 
@@ -78,6 +82,8 @@ pub(crate) fn store_type<B: Bindgen>(
     requires below { IsTrue (type_below (length resolve.now.types) ty) }
     requires side { IsSide B.meaning realloc bindgen.old }
     requires knows { B.meaning.knows bindgen.old resolve.now.types }
+    requires serves { Serves (shape_of resolve.now.types ty) }
+    requires low { EndsLow (shape_of resolve.now.types ty) offset }
     ensures stores { OnOk result (LowersToMemory B.meaning realloc (shape_of resolve.now.types ty) value address.now offset bindgen.old bindgen.new) }
     ensures sends { OnOk result (Sends B.meaning resolve.now.types (store_code resolve.now.types realloc ty offset) bindgen.old bindgen.new) }
 {
@@ -87,7 +93,7 @@ pub(crate) fn store_type<B: Bindgen>(
     match ty {
         WitType::String => store_text(alloc, resolve, bindgen, address, offset, value, realloc),
         WitType::Id(id) => store_id(alloc, resolve, bindgen, address, offset, value, id, realloc),
-        _ => Err(OutOfMemory),
+        _ => unreachable!(),
     }
 }
 
@@ -108,6 +114,8 @@ fn store_id<B: Bindgen>(
     requires within { id.0 < length resolve.now.types }
     requires side { IsSide B.meaning realloc bindgen.old }
     requires knows { B.meaning.knows bindgen.old resolve.now.types }
+    requires serves { Serves (shape_at resolve.now.types id.0) }
+    requires low { EndsLow (shape_at resolve.now.types id.0) offset }
     ensures stores { OnOk result (LowersToMemory B.meaning realloc (shape_at resolve.now.types id.0) value address.now offset bindgen.old bindgen.new) }
     ensures sends { OnOk result (Sends B.meaning resolve.now.types (store_code resolve.now.types realloc (Id id) offset) bindgen.old bindgen.new) }
 {
@@ -129,7 +137,7 @@ fn store_id<B: Bindgen>(
         }
         TypeDefKind::Tuple(members) => {
             let tys = members.as_slice();
-            let inst = Instruction::TupleLower(part_count(tys)?);
+            let inst = Instruction::TupleLower(part_count(tys));
             let parts = lower_by(alloc, resolve, bindgen, value, inst)?;
             store_parts(
                 alloc, resolve, bindgen, address, offset, id, tys, &parts, realloc,
@@ -151,7 +159,7 @@ fn store_id<B: Bindgen>(
         TypeDefKind::Result(_, _) => store_variant(
             alloc, resolve, bindgen, address, offset, value, id, kind, realloc,
         ),
-        _ => Err(OutOfMemory),
+        _ => unreachable!(),
     }
 }
 
@@ -174,12 +182,14 @@ fn store_variant<B: Bindgen>(
     requires cases { has_cases kind.now ≡ true }
     requires side { IsSide B.meaning realloc bindgen.old }
     requires knows { B.meaning.knows bindgen.old resolve.now.types }
+    requires serves { Serves (shape_at resolve.now.types id.0) }
+    requires low { EndsLow (shape_at resolve.now.types id.0) offset }
     ensures stores { OnOk result (LowersToMemory B.meaning realloc (shape_at resolve.now.types id.0) value address.now offset bindgen.old bindgen.new) }
     ensures sends { OnOk result (Sends B.meaning resolve.now.types (store_code resolve.now.types realloc (Id id) offset) bindgen.old bindgen.new) }
 {
     let payloads = case_payloads(alloc, kind)?;
     let lower = case_lowering(kind, id, 0);
-    let place = payload_place(bindgen, id, offset)?;
+    let place = payload_place(bindgen, id, offset);
     let tys = payloads.as_slice();
     store_cases(
         alloc, resolve, bindgen, address, offset, place, id, tys, realloc,
@@ -207,13 +217,13 @@ fn store_cases<B: Bindgen>(
     requires below { list_all (λ p. payload_below id.0 p) payloads.now ≡ true }
     requires side { IsSide B.meaning realloc bindgen.old }
     requires knows { B.meaning.knows bindgen.old resolve.now.types }
+    requires most { length payloads.now ≤ 2 ^ 31 }
+    requires serves { ServesAll (payloads_in (shapes resolve.now.types) payloads.now) }
+    requires low { EachEndsLow (payloads_in (shapes resolve.now.types) payloads.now) place }
     ensures stores { OnOk result (StoresCases B.meaning realloc (discriminant_grain (length payloads.now)) 0 (payloads_in (shapes resolve.now.types) payloads.now) address.now offset place bindgen.old bindgen.new) }
     ensures sends { OnOk result (Sends B.meaning resolve.now.types (in_blocks (λ n p. store_case (length payloads.now) offset place n (option_map (store_code resolve.now.types realloc) p)) 0 payloads.now) bindgen.old bindgen.new) }
 {
     let count = payloads.len();
-    if count > MOST_CASES {
-        return Err(OutOfMemory);
-    }
     for i in 0..count {
         store_case(
             alloc,
@@ -255,6 +265,8 @@ fn store_case<B: Bindgen>(
     requires most { count ≤ 2 ^ 31 }
     requires side { IsSide B.meaning realloc bindgen.old }
     requires knows { B.meaning.knows bindgen.old resolve.now.types }
+    requires serves { Serves (payload_in (shapes resolve.now.types) payload) }
+    requires low { EndsLow (payload_in (shapes resolve.now.types) payload) place }
     ensures stores { OnOk result (StoresCase B.meaning realloc (discriminant_grain count) number (payload_in (shapes resolve.now.types) payload) address.now offset place bindgen.old bindgen.new) }
     ensures sends { OnOk result (Sends B.meaning resolve.now.types (opens ∷ store_case count offset place number (option_map (store_code resolve.now.types realloc) payload) ++ closes ∷ []) bindgen.old bindgen.new) }
 {
@@ -295,6 +307,8 @@ fn store_payload<B: Bindgen>(
     requires most { count ≤ 2 ^ 31 }
     requires side { IsSide B.meaning realloc bindgen.old }
     requires knows { B.meaning.knows bindgen.old resolve.now.types }
+    requires serves { Serves (shape_of resolve.now.types ty) }
+    requires low { EndsLow (shape_of resolve.now.types ty) place }
     ensures stores { OnOk result (StoresCase B.meaning realloc (discriminant_grain count) number (shape_of resolve.now.types ty) address.now offset place bindgen.old bindgen.new) }
     ensures sends { OnOk result (Sends B.meaning resolve.now.types (opens ∷ store_case count offset place number (Some (store_code resolve.now.types realloc ty)) ++ closes ∷ []) bindgen.old bindgen.new) }
 {
@@ -327,11 +341,13 @@ fn store_parts<B: Bindgen>(
     requires enough { length parts.now ≡ length tys.now }
     requires side { IsSide B.meaning realloc bindgen.old }
     requires knows { B.meaning.knows bindgen.old resolve.now.types }
+    requires serves { ServesAll (shapes_of resolve.now.types tys.now) }
+    requires low { EndsLow (shape_at resolve.now.types id.0) offset }
     ensures stores { OnOk result (StoresParts B.meaning realloc (shapes_of resolve.now.types tys.now) parts.now address.now offset 0 bindgen.old bindgen.new) }
     ensures sends { OnOk result (Sends B.meaning resolve.now.types (each (λ n ty. store_code resolve.now.types realloc ty (beyond offset (place_in (tree_at resolve.now.types id.0) n))) 0 tys.now) bindgen.old bindgen.new) }
 {
     for i in 0..tys.len() {
-        let place = part_place(bindgen, id, i, offset)?;
+        let place = part_place(bindgen, id, i, offset);
         let part = parts.as_slice()[i].copy(alloc)?;
         store_type(
             alloc, resolve, bindgen, address, place, part, tys[i], realloc,
@@ -374,7 +390,8 @@ fn store_text<B: Bindgen>(
     value: B::Operand,
     realloc: bool,
 ) -> Result<(), OutOfMemory>
-    requires { IsSide B.meaning realloc bindgen.old }
+    requires side { IsSide B.meaning realloc bindgen.old }
+    requires low { EndsLow text offset }
     ensures stores { OnOk result (LowersToMemory B.meaning realloc text value address.now offset bindgen.old bindgen.new) }
     ensures sends { OnOk result (Sends B.meaning resolve.now.types (store_code resolve.now.types realloc String offset) bindgen.old bindgen.new) }
 {
@@ -387,7 +404,7 @@ fn store_text<B: Bindgen>(
     )?;
     let place = words.as_slice()[0].copy(alloc)?;
     let length = words.as_slice()[1].copy(alloc)?;
-    let behind = behind_pointer(offset)?;
+    let behind = behind_pointer(offset);
     store_word(
         alloc,
         resolve,

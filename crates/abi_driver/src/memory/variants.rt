@@ -16,13 +16,12 @@ ghost use Rattle.abi_bindgen.specs.Instructions.{Emits, has_cases};
 ghost use Rattle.abi_bindgen.specs.NumberTouches.{tag_load, tag_store};
 ghost use Rattle.abi_bindgen.specs.Sends.{Sends};
 ghost use Rattle.abi_bindgen.specs.Sent.{closes, opens};
+ghost use Rattle.abi_driver.specs.Low.{HasLowPayload};
 ghost use Rattle.abi_driver.specs.StoredCases.{StoresCase};
 
 use crate::memory::place::sum;
 use crate::memory::word::{load_word, store_word};
-use abi_bindgen::{
-    Bindgen, Instruction, MOST_CASES, Operand, kind_payloads, send_one, tag_load, tag_store,
-};
+use abi_bindgen::{Bindgen, Instruction, Operand, kind_payloads, send_one, tag_load, tag_store};
 use std::alloc::Global;
 use wit_model::{ArchitectureSize, List, OutOfMemory, Resolve, TypeDefKind, TypeId, WitType};
 
@@ -48,16 +47,12 @@ pub(crate) fn payload_place<B: Bindgen>(
     bindgen: &B,
     id: TypeId,
     offset: ArchitectureSize,
-) -> Result<ArchitectureSize, OutOfMemory>
-    ensures { IfOk result (λ place. (types : List TypeDef) (entry : TypeDef) → B.meaning.knows bindgen.now types → slice_get types id.0 ≡ Some entry → is_alias entry.kind ≡ false
-        → (at : ArchitectureSize) × (place ≡ beyond offset at) × IsPairOf at (λ w. payload_offset w (tree_at types id.0))) }
+) -> ArchitectureSize
+    requires { (types : List TypeDef) × B.meaning.knows bindgen.now types × HasLowPayload types id.0 offset }
+    ensures { (types : List TypeDef) (entry : TypeDef) → B.meaning.knows bindgen.now types → slice_get types id.0 ≡ Some entry → is_alias entry.kind ≡ false
+        → (at : ArchitectureSize) × (result ≡ beyond offset at) × IsPairOf at (λ w. payload_offset w (tree_at types id.0)) }
 {
-    let sizes = bindgen.sizes();
-    if !sizes.has_size(&WitType::Id(id)) {
-        return Err(OutOfMemory);
-    }
-    let whole = sum(offset, sizes.payload_offset(id))?;
-    Ok(whole)
+    sum(offset, bindgen.sizes().payload_offset(id))
 }
 
 /// What denotes the payload of the innermost open block.
@@ -119,7 +114,7 @@ pub(super) fn store_tag<B: Bindgen>(
     Ok(())
 }
 
-/// The tag of one of so many cases. Of more than a word can number the answer is `OutOfMemory`.
+/// The tag of one of so many cases.
 pub(crate) fn load_tag<B: Bindgen>(
     alloc: Global,
     resolve: &Resolve,
@@ -128,12 +123,8 @@ pub(crate) fn load_tag<B: Bindgen>(
     offset: ArchitectureSize,
     cases: usize,
 ) -> Result<B::Operand, OutOfMemory>
-    ensures loads { IfOk result (λ tag. Emits B.meaning resolve.now.types (tag_load cases offset) (address.now ∷ []) (tag ∷ []) bindgen.old bindgen.new) }
-    ensures most { OnOk result (cases ≤ 2 ^ 31) }
+    ensures { IfOk result (λ tag. Emits B.meaning resolve.now.types (tag_load cases offset) (address.now ∷ []) (tag ∷ []) bindgen.old bindgen.new) }
 {
-    if cases > MOST_CASES {
-        return Err(OutOfMemory);
-    }
     let load = tag_load(cases, offset);
     let tag = load_word(alloc, resolve, bindgen, address, load)?;
     Ok(tag)

@@ -1,10 +1,14 @@
 //! The driver's code for the functions of these worlds, made apart from their files.
 
-ghost use Rattle.std.specs.Prelude.{◌≡◌, ◌<◌, ◌∷◌, length, true, IfOk};
+ghost use Rattle.std.specs.Prelude.{◌≡◌, ◌<◌, [], ◌∷◌, length, true, IfOk};
 ghost use Rattle.std.specs.List.{AllByRecursion};
 ghost use Rattle.wit_model.specs.Distinct.{is_distinct};
 ghost use Rattle.wit_model.specs.IndexRange.{function_in_range};
 ghost use Rattle.wit_model.specs.WellFormed.{IsWellFormed};
+ghost use Rattle.wit_model.specs.declared.types.WitType.TheVariants.{Id};
+ghost use Rattle.wrapper_meaning.specs.Shape.{shape_at};
+ghost use Rattle.abi_bindgen.specs.Served.{Serves};
+ghost use Rattle.abi_driver.specs.Low.{IsSmallRecord};
 ghost use Rattle.abi_driver.specs.Exports.{export_params};
 ghost use Rattle.func_gen.specs.Sites.{IsSite, site_names};
 ghost use Rattle.func_gen.specs.TypeSites.{CanBeDefined};
@@ -83,6 +87,8 @@ pub(crate) fn fresh(
 pub(crate) fn import_code(alloc: Global, resolve: &Resolve) -> Result<Body, Fail>
     requires well { IsWellFormed resolve.now }
     requires some { 0 < length resolve.now.types }
+    requires serves { Serves (shape_at resolve.now.types 0) }
+    requires small { IsSmallRecord resolve.now.types (Id (record { 0 = 0 }) ∷ []) }
 {
     let func = function(alloc)?;
     let parts = import_parts(alloc, resolve)?;
@@ -127,6 +133,8 @@ fn export_parts(alloc: Global, resolve: &Resolve, func: &Function) -> Result<Bod
 pub(crate) fn export_code(alloc: Global, resolve: &Resolve) -> Result<Body, Fail>
     requires well { IsWellFormed resolve.now }
     requires some { 0 < length resolve.now.types }
+    requires serves { Serves (shape_at resolve.now.types 0) }
+    requires small { IsSmallRecord resolve.now.types (Id (record { 0 = 0 }) ∷ []) }
 {
     let func = function(alloc)?;
     let parts = export_parts(alloc, resolve, &func)?;

@@ -1,5 +1,6 @@
 //! Code that puts a value into memory and frees one, which `call` makes by inner functions.
 
+ghost use Rattle.std.specs.Prelude.{◌≡◌, length, IfOk};
 ghost use Rattle.wit_model.specs.WellFormed.{IsWellFormed};
 
 use crate::bodies::code::{fresh, import_parts};
@@ -22,7 +23,9 @@ fn local(alloc: Global, name: &str) -> Result<ExprOperand, OutOfMemory> {
 }
 
 /// The address and the length of a text.
-fn words_of_a_text(alloc: Global) -> Result<List<ExprOperand>, OutOfMemory> {
+fn words_of_a_text(alloc: Global) -> Result<List<ExprOperand>, OutOfMemory>
+    ensures { IfOk result (λ words. length words ≡ 2) }
+{
     let mut words = List::new(alloc);
     words.push(local(alloc, "p")?)?;
     words.push(local(alloc, "n")?)?;

@@ -1,15 +1,23 @@
 //! Worlds of one type, and of one function that takes it.
 
-ghost use Rattle.std.specs.Prelude.{◌≡◌, ◌<◌, length, true, IfOk};
+ghost use Rattle.std.specs.Prelude.{◌≡◌, ◌<◌, [], ◌∷◌, length, map, true, List, IfOk};
 ghost use Rattle.wit_model.specs.IndexRange.{function_in_range};
 ghost use Rattle.wit_model.specs.WellFormed.{IsWellFormed};
 ghost use Rattle.wit_model.specs.declared.resolve.Resolve.{Resolve};
+ghost use Rattle.wit_model.specs.declared.types.TypeDef.{TypeDef};
+ghost use Rattle.wit_model.specs.declared.types.WitType.TheVariants.{Id};
+ghost use Rattle.wrapper_meaning.specs.Shape.{shape_at};
+ghost use Rattle.abi_bindgen.specs.Served.{Serves, ServesFunction};
+ghost use Rattle.abi_driver.specs.Low.{IsSmallRecord};
 
+use gen_accept::{Opts, accepted_world};
 use std::alloc::Global;
 use std::test::Fail;
 use wit_document::{Document, document_of};
+use wit_layout::SizeAlign;
 use wit_model::{
     Docs, Function, FunctionKind, List, Name, OutOfMemory, Param, Resolve, Text, TypeId, WitType,
+    WorldId,
 };
 
 /// A name of small letters and of great ones.
@@ -26,6 +34,8 @@ fn name(alloc: Global, small: &str, great: &str) -> Result<Name, OutOfMemory> {
 pub(crate) fn function(alloc: Global) -> Result<Function, OutOfMemory>
     ensures within { IfOk result (λ f. (r : Resolve) → 0 < length r.types → function_in_range r f ≡ true) }
     ensures one { IfOk result (λ f. length f.params ≡ 1) }
+    ensures serves { IfOk result (λ f. (types : List TypeDef) → Serves (shape_at types 0) → ServesFunction types f) }
+    ensures types { IfOk result (λ f. map (λ p. p.ty) f.params ≡ Id (record { 0 = 0 }) ∷ []) }
 {
     let param = Param {
         name: name(alloc, "x", "X")?,
@@ -42,15 +52,22 @@ pub(crate) fn function(alloc: Global) -> Result<Function, OutOfMemory>
     })
 }
 
-/// The tables of a document, which have a type.
+/// The tables of a document, which have a type that the driver makes code for.
 fn tables(alloc: Global, document: &str) -> Result<Resolve, Fail>
     ensures well { IfOk result IsWellFormed }
     ensures some { IfOk result (λ r. 0 < length r.types) }
+    ensures serves { IfOk result (λ r. Serves (shape_at r.types 0)) }
+    ensures small { IfOk result (λ r. IsSmallRecord r.types (Id (record { 0 = 0 }) ∷ [])) }
 {
     let Document { resolve, .. } = document_of(alloc, document.as_bytes())?;
     resolve.check(alloc)?;
     if resolve.types.is_empty() {
         return Err(Fail::new("the document has no type"));
+    }
+    accepted_world(alloc, &Opts::default(alloc), &resolve, WorldId(0))?;
+    let sizes = SizeAlign::fill(alloc, &resolve)?;
+    if !sizes.fits_in_record(&[WitType::Id(TypeId(0))]) {
+        return Err(Fail::new("the type is too large"));
     }
     Ok(resolve)
 }
@@ -72,6 +89,8 @@ const VARIANT: &str = r#"{"world": 0, "resolve": {"interfaces": [],
 pub(crate) fn world_of_a_variant(alloc: Global) -> Result<Resolve, Fail>
     ensures well { IfOk result IsWellFormed }
     ensures some { IfOk result (λ r. 0 < length r.types) }
+    ensures serves { IfOk result (λ r. Serves (shape_at r.types 0)) }
+    ensures small { IfOk result (λ r. IsSmallRecord r.types (Id (record { 0 = 0 }) ∷ [])) }
 {
     tables(alloc, VARIANT)
 }
@@ -105,6 +124,8 @@ fn document_of_flags(alloc: Global, count: u32) -> Result<String, Fail> {
 pub(crate) fn world_of_flags(alloc: Global) -> Result<Resolve, Fail>
     ensures well { IfOk result IsWellFormed }
     ensures some { IfOk result (λ r. 0 < length r.types) }
+    ensures serves { IfOk result (λ r. Serves (shape_at r.types 0)) }
+    ensures small { IfOk result (λ r. IsSmallRecord r.types (Id (record { 0 = 0 }) ∷ [])) }
 {
     let document = document_of_flags(alloc, 40)?;
     tables(alloc, document.as_str())

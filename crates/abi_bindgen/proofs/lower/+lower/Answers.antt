@@ -5,6 +5,7 @@ use Rattle.std.proofs.lemmas.List.{drop_more, length-drop, length-map, length-ta
 use Rattle.std.proofs.lemmas.Option.{slice_get_within}
 use Rattle.wit_model.specs.TypeOrder.{payload_below, type_below}
 use Rattle.wit_model.specs.declared.types.Field.{Field}
+use Rattle.wit_model.specs.declared.types.TypeDef.{TypeDef}
 use Rattle.wit_model.specs.declared.types.TypeDefKind.TheVariants as kind
 use Rattle.wit_model.specs.declared.types.WitType.{WitType}
 use Rattle.wit_model.specs.declared.types.WitType.TheVariants as wit
@@ -22,7 +23,9 @@ use Rattle.abi_bindgen.specs.Blocks.{Finishes}
 use Rattle.abi_bindgen.specs.Instructions.{Emits, IsSendable, case_lowering, shapes_of}
 use Rattle.abi_bindgen.specs.Sends.{Sends}
 use Rattle.abi_bindgen.specs.Sent.{closes, sends}
+use Rattle.abi_bindgen.specs.Served.{ServesAll}
 use Rattle.abi_bindgen.specs.SlotCasts.{AddsZeros, AreOrdered, CastsAll, FitIn, ReadBack}
+use Rattle.abi_bindgen.specs.WordCount.{word_count, word_counts}
 use Rattle.abi_bindgen.proofs.BlockRuns.{grows_alike, grows_none}
 use Rattle.abi_bindgen.proofs.CaseLowers.{full_lowers}
 use Rattle.abi_bindgen.proofs.Payloads.{count_told, payload_count, payload_in_table, payload_ranked, payload_told, slots_told, variant_below, variant_shape, payload_some}
@@ -32,9 +35,11 @@ use Rattle.abi_bindgen.proofs.EnumLowers.{enum_lowers}
 use Rattle.abi_bindgen.proofs.FlagLowers.{flags_lowers}
 use Rattle.abi_bindgen.proofs.FlatCode.{lower_alias_code, lower_enum_code, lower_flags_code, lower_record_code, lower_scalar_code, lower_text_code, lower_tuple_code, lower_variant_code}
 use Rattle.abi_bindgen.proofs.LowerSteps.{lowers_all_as, lowers_as, record_lowers, rest_last, rest_next, scalar_lowers, text_lowers, tuple_lowers}
-use Rattle.abi_bindgen.proofs.Records.{alias_below, alias_rank, alias_shape, count-shapes, drop-same, entry_at, enum_shape, flags_shape, kind_at, part_below_table, part_ranked, record_below, record_shape, tuple_below, tuple_shape}
+use Rattle.abi_bindgen.proofs.Records.{alias_below, alias_rank, alias_shape, count-shapes, drop-same, entry_at, enum_shape, flags_shape, kind_at, part_below_table, part_ranked, record_below, record_shape, tuple_below, tuple_shape, tuple_short}
 use Rattle.abi_bindgen.proofs.Runs.{adds_both, side_later}
+use Rattle.abi_bindgen.proofs.Serving.{alias_served, enum_served, few_payloads, other_refused, part_served, payload_served, payloads_served, record_served, tuple_served}
 use Rattle.abi_bindgen.proofs.SendSteps.{sends_as, sends_both, sends_last, sends_next, sends_one, sends_then}
+use Rattle.abi_bindgen.proofs.WordCounts.{alias_words, case_count, few_words, no_more, part_few, record_words, tuple_words}
 use Rattle.abi_bindgen.proofs.lower.+lower.Goals as goal
 
 pub lower_id-lower_type-requires : goal.lower_id-lower_type-requires
@@ -45,6 +50,8 @@ lower_id-lower_type-requires g t c κs within =
     let is = kind_at c.as_slice-types.result.now c.args.id.0 d (kind.Alias c.in-Alias.ty) c.index-types-at.is c.in-Alias.is in
     let low : rank c.in-Alias.ty ≤ c.args.id.0 = alias_rank types c.requires.down c.args.id.0 d at c.in-Alias.ty is in
     let below = alias_below types c.requires.down c.args.id.0 d at c.in-Alias.ty is c.requires.within in
+    let served = alias_served types c.requires.down c.args.id.0 d at c.requires.serves c.in-Alias.ty is in
+    let few : word_count types c.in-Alias.ty ≤ 16 = subst (λ n. n ≤ 16) (alias_words types c.requires.down c.args.id d at c.in-Alias.ty is) c.requires.few in
     search rules
 
 pub lower_id-returns-in_ok-words-in-Alias : goal.lower_id-returns-in_ok-words-in-Alias
@@ -65,9 +72,9 @@ lower_id-returns-in_ok-words-in-Enum g t c =
     let types = c.args.resolve.now.types in
     let d = c.index-types-at.result in
     let at = entry_at types c.as_slice-types.result.now c.args.id.0 d c.as_slice-types.ensures c.requires.within c.index-types-at.is in
-    let members = c.in-Enum.members in
-    let most : length members ≤ 2 ^ 31 = omega (arith, c.if-len-gt-MOST_CASES.false, c.len.ensures) in
+    let members = c.in-Enum.field-0 in
     let is = kind_at c.as_slice-types.result.now c.args.id.0 d (kind.Enum members) c.index-types-at.is c.in-Enum.is in
+    let most = enum_served types c.requires.down c.args.id.0 d at c.requires.serves members is in
     let e = c.in_ok-words-in-Enum.ensures in
     let flat = enum_lowers m types c.args.realloc c.args.id members _ _ c.args.value c.in_ok-words-in-Enum.words most (record { entry = d; stands = at; kind = is }) e in
     record {
@@ -115,6 +122,8 @@ lower_record-lower_parts-requires g t c κs within =
     let made = c.in_ok-parts.ensures.results members (record { entry = here.entry; at = here.stands; kind = here.kind }) in
     let enough : length c.in_ok-parts.parts ≡ length read = made ∙ sym (ap length same ∙ length-map members (λ (f : Field). f.ty)) in
     let side = side_later m _ _ c.args.realloc c.in_ok-parts.ensures.adds.grows c.requires.side in
+    let served = subst (λ (xs : List WitType). ServesAll (shapes_of types xs)) (sym same) (record_served types c.requires.down c.args.id.0 here.entry here.stands c.requires.serves members here.kind) in
+    let few : word_counts types read ≤ 16 = subst (λ (xs : List WitType). word_counts types xs ≤ 16) (sym same) (subst (λ n. n ≤ 16) (record_words types c.requires.down c.args.id here.entry here.stands members here.kind) c.requires.few) in
     search rules
 
 pub lower_record-returns : goal.lower_record-returns
@@ -140,8 +149,10 @@ lower_tuple-lower_parts-requires g t c κs within =
     let inside : c.args.id.0 < length types = slice_get_within types c.args.id.0 here.entry here.stands in
     let read = c.as_slice-tys.result.now in
     let below = subst (λ (xs : List WitType). list_all (λ ty. type_below c.args.id.0 ty) xs ≡ true) (sym c.as_slice-tys.ensures) (tuple_below types c.requires.down c.args.id.0 here.entry here.stands c.args.members.now here.kind) in
-    let enough : length c.in_ok-parts.parts ≡ length read = c.in_ok-parts.ensures.results ∙ c.in_ok-part_count.ensures in
+    let enough : length c.in_ok-parts.parts ≡ length read = c.in_ok-parts.ensures.results ∙ c.part_count.ensures in
     let side = side_later m _ _ c.args.realloc c.in_ok-parts.ensures.adds.grows c.requires.side in
+    let served = subst (λ (xs : List WitType). ServesAll (shapes_of types xs)) (sym c.as_slice-tys.ensures) (tuple_served types c.requires.down c.args.id.0 here.entry here.stands c.requires.serves c.args.members.now here.kind) in
+    let few : word_counts types read ≤ 16 = subst (λ (xs : List WitType). word_counts types xs ≤ 16) (sym c.as_slice-tys.ensures) (subst (λ n. n ≤ 16) (tuple_words types c.requires.down c.args.id here.entry here.stands c.args.members.now here.kind) c.requires.few) in
     search rules
 
 pub lower_tuple-returns : goal.lower_tuple-returns
@@ -151,9 +162,9 @@ lower_tuple-returns g t c =
     let here = c.requires.here in
     let tys = c.args.members.now in
     let later = lowers_all_as m g.met.B.Bindgen.sound types c.args.realloc _ _ _ _ c.in_ok-parts.parts c.in_ok-words.words c.as_slice-tys.ensures c.in_ok-words.ensures.lowers in
-    let count = count-shapes types tys ∙ sym (c.in_ok-part_count.ensures ∙ ap length c.as_slice-tys.ensures) in
-    let whole = tuple_lowers m g.met.B.Bindgen.sound types c.args.realloc c.in_ok-part_count.field-0 (shapes_of types tys) _ _ _ c.args.value c.in_ok-parts.parts c.in_ok-words.words count c.in_ok-parts.ensures later in
-    let many : length tys ≡ c.in_ok-part_count.field-0 = sym (c.in_ok-part_count.ensures ∙ ap length c.as_slice-tys.ensures) in
+    let count = count-shapes types tys ∙ sym (c.part_count.ensures ∙ ap length c.as_slice-tys.ensures) in
+    let whole = tuple_lowers m g.met.B.Bindgen.sound types c.args.realloc c.part_count.result (shapes_of types tys) _ _ _ c.args.value c.in_ok-parts.parts c.in_ok-words.words count c.in_ok-parts.ensures later in
+    let many : length tys ≡ c.part_count.result = sym (c.part_count.ensures ∙ ap length c.as_slice-tys.ensures) in
     let parts = sends_as m types _ _ _ _ (ap (each (λ n ty. lower_code types c.args.realloc ty) 0) (sym c.as_slice-tys.ensures)) c.in_ok-words.ensures.sends in
     let code = lower_tuple_code types c.requires.down c.args.id here.entry here.stands c.args.realloc tys here.kind ∙ ap (λ n. sends (TupleLower n) ∷ each (λ n ty. lower_code types c.args.realloc ty) 0 tys) many in
     record {
@@ -169,6 +180,8 @@ lower_parts-lower_type-requires g t c κs within =
     let low : rank (get_or c.args.tys.now c.loop-i.i wit.Bool) ≤ c.args.at = part_ranked c.args.at c.args.tys.now c.requires.below c.loop-i.i wit.Bool short in
     let below = part_below_table c.args.at c.args.tys.now c.requires.below c.loop-i.i wit.Bool short (length types) c.requires.within in
     let side = side_later m _ _ c.args.realloc c.loop-i.invariant.adds.grows c.requires.side in
+    let served = part_served types c.args.tys.now c.loop-i.i wit.Bool c.requires.serves short in
+    let few : word_count types (get_or c.args.tys.now c.loop-i.i wit.Bool) ≤ 16 = omega (arith, part_few types c.args.tys.now c.loop-i.i wit.Bool short, c.requires.few) in
     search rules
 
 pub lower_parts-loop-i-preserved : goal.lower_parts-loop-i-preserved
@@ -221,13 +234,13 @@ lower_cases-flat_types-flat-requires-clause-below g t c = lt-ltb c.args.id.0 (le
 pub lower_cases-slice_bounds-slots-count : goal.lower_cases-slice_bounds-slots-count
 lower_cases-slice_bounds-slots-count g t c =
     let f = c.flat_types-flat.result in
-    let is : f.count ≡ case_words c.args.resolve.now.types c.args.payloads.now = count_told c.args.resolve.now.types c.args.id c.args.payloads.now c.requires.cases f c.flat_types-flat.ensures c.if-flat.false in
+    let is : f.count ≡ case_words c.args.resolve.now.types c.args.payloads.now = count_told c.args.resolve.now.types c.args.id c.args.payloads.now c.requires.cases f c.flat_types-flat.ensures (no_more c.args.resolve.now.types (wit.Id c.args.id) c.flat_types-flat.result c.flat_types-flat.ensures c.requires.sixteen) in
     omega (arith, is)
 
 pub lower_cases-slice_bounds-slots-start : goal.lower_cases-slice_bounds-slots-start
 lower_cases-slice_bounds-slots-start g t c =
     let f = c.flat_types-flat.result in
-    let is : f.count ≡ case_words c.args.resolve.now.types c.args.payloads.now = count_told c.args.resolve.now.types c.args.id c.args.payloads.now c.requires.cases f c.flat_types-flat.ensures c.if-flat.false in
+    let is : f.count ≡ case_words c.args.resolve.now.types c.args.payloads.now = count_told c.args.resolve.now.types c.args.id c.args.payloads.now c.requires.cases f c.flat_types-flat.ensures (no_more c.args.resolve.now.types (wit.Id c.args.id) c.flat_types-flat.result c.flat_types-flat.ensures c.requires.sixteen) in
     let some : 1 ≤ f.count = omega (arith, is) in
     some
 
@@ -240,10 +253,12 @@ lower_cases-lower_case-requires g t c κs within =
     let short : i < length payloads = omega (arith, c.loop-i-test.true) in
     let low : payload_rank (get_or payloads i None) ≤ c.args.id.0 = payload_ranked c.args.id.0 payloads i None c.requires.below short in
     let below : payload_below (length types) (get_or payloads i None) ≡ true = payload_in_table c.args.id.0 (length types) payloads i None c.requires.within c.requires.below short in
-    let few : i < 2 ^ 31 = omega (arith, short, c.if-payloads-gt-MOST_CASES.false) in
+    let few : i < 2 ^ 31 = omega (arith, short, few_payloads types c.args.id.0 payloads c.requires.cases c.requires.serves) in
+    let served = payload_served types payloads i None (payloads_served types c.args.id.0 payloads c.requires.cases c.requires.serves) short in
     let f = c.flat_types-flat.result in
-    let fits : FitIn (payload_words types (get_or payloads i None)) (take (f.count - 1) (drop 1 f.words)) =
-    subst (FitIn (payload_words types (get_or payloads i None))) (sym (slots_told types c.args.id payloads c.requires.cases f c.flat_types-flat.ensures c.if-flat.false)) (payload_fits types payloads i None short) in
+    let told = slots_told types c.args.id payloads c.requires.cases f c.flat_types-flat.ensures (no_more c.args.resolve.now.types (wit.Id c.args.id) c.flat_types-flat.result c.flat_types-flat.ensures c.requires.sixteen) in
+    let fits : FitIn (payload_words types (get_or payloads i None)) (take (f.count - 1) (drop 1 f.words)) = subst (FitIn (payload_words types (get_or payloads i None))) (sym told) (payload_fits types payloads i None short) in
+    let sixteen : length (take (f.count - 1) (drop 1 f.words)) ≤ 16 = omega (arith, ap length told, case_count types c.args.id payloads c.requires.cases, c.requires.sixteen) in
     let side = side_later m _ _ c.args.realloc c.loop-i.invariant.grows c.requires.side in
     search rules
 
@@ -259,7 +274,7 @@ lower_cases-loop-i-preserved g t c =
     let i = c.loop-i.i in
     let f = c.flat_types-flat.result in
     let short : i < length payloads = omega (arith, c.loop-i-test.true) in
-    let told = slots_told types c.args.id payloads c.requires.cases f c.flat_types-flat.ensures c.if-flat.false in
+    let told = slots_told types c.args.id payloads c.requires.cases f c.flat_types-flat.ensures (no_more c.args.resolve.now.types (wit.Id c.args.id) c.flat_types-flat.result c.flat_types-flat.ensures c.requires.sixteen) in
     let here = subst (λ (ds : List WasmType). LowersCases m c.args.realloc (more (payload_in (shapes types) (get_or payloads i None)) none) i ds c.loop-i.bindgen c.lower_case.new.bindgen) told c.in_ok-lower_case.ensures.lowers in
     let sent = subst (λ (ds : List WasmType). Sends m types (lower_case types ds i (get_or payloads i None) (option_map (lower_code types c.args.realloc) (get_or payloads i None))) c.loop-i.bindgen c.lower_case.new.bindgen) told c.in_ok-lower_case.ensures.sends in
     record {
@@ -277,8 +292,8 @@ lower_cases-returns g t c =
     let payloads = c.args.payloads.now in
     let ended : length payloads ≤ c.loop-i.i = omega (arith, c.loop-i-test.false) in
     record {
-      words = count_told types c.args.id payloads c.requires.cases c.flat_types-flat.result c.flat_types-flat.ensures c.if-flat.false;
-      few = c.if-payloads-gt-MOST_CASES.false;
+      words = count_told types c.args.id payloads c.requires.cases c.flat_types-flat.result c.flat_types-flat.ensures (no_more c.args.resolve.now.types (wit.Id c.args.id) c.flat_types-flat.result c.flat_types-flat.ensures c.requires.sixteen);
+      few = few_payloads types c.args.id.0 payloads c.requires.cases c.requires.serves;
       lowers = cases_done m g.met.B.Bindgen.sound r c.requires.down c.args.id c.args.realloc payloads c.loop-i.i (shared_slots types payloads) _ _ ended c.loop-i.invariant.rest;
       sends = sends_last m types (λ n payload. lower_case types (shared_slots types payloads) n payload (option_map (lower_code types c.args.realloc) payload)) payloads c.loop-i.i _ _ ended c.loop-i.invariant.sent;
     }
@@ -286,7 +301,7 @@ lower_cases-returns g t c =
 pub lower_payload-slice_bounds-cast_words-end : goal.lower_payload-slice_bounds-cast_words-end
 lower_payload-slice_bounds-cast_words-end g t c =
     let f = c.flat_types-flat.result in
-    let is = payload_count c.args.resolve.now.types c.args.ty f c.flat_types-flat.ensures c.if-flat.false in
+    let is = payload_count c.args.resolve.now.types c.args.ty f c.flat_types-flat.ensures (no_more c.args.resolve.now.types c.args.ty c.flat_types-flat.result c.flat_types-flat.ensures (few_words c.args.resolve.now.types c.args.ty c.args.slots.now c.requires.fits c.requires.sixteen)) in
     let most = fit_length (payload_words c.args.resolve.now.types (Some c.args.ty)) c.args.slots.now c.requires.fits in
     sym (length-take-le f.count c.args.slots.now (omega (arith, is, most)))
 
@@ -295,24 +310,24 @@ lower_payload-cast_words-requires-clause-ordered g t c =
     let types = c.args.resolve.now.types in
     let f = c.flat_types-flat.result in
     let words = payload_words types (Some c.args.ty) in
-    let told = payload_told types c.args.ty f c.flat_types-flat.ensures c.if-flat.false in
-    let is = payload_count types c.args.ty f c.flat_types-flat.ensures c.if-flat.false in
+    let told = payload_told types c.args.ty f c.flat_types-flat.ensures (no_more c.args.resolve.now.types c.args.ty c.flat_types-flat.result c.flat_types-flat.ensures (few_words c.args.resolve.now.types c.args.ty c.args.slots.now c.requires.fits c.requires.sixteen)) in
+    let is = payload_count types c.args.ty f c.flat_types-flat.ensures (no_more c.args.resolve.now.types c.args.ty c.flat_types-flat.result c.flat_types-flat.ensures (few_words c.args.resolve.now.types c.args.ty c.args.slots.now c.requires.fits c.requires.sixteen)) in
     subst (λ (xs : List WasmType). AreOrdered xs (take f.count c.args.slots.now)) (sym told) (subst (λ n. AreOrdered words (take n c.args.slots.now)) (sym is) (to_slots words c.args.slots.now c.requires.fits))
 
 pub lower_payload-cast_words-requires-clause-enough : goal.lower_payload-cast_words-requires-clause-enough
 lower_payload-cast_words-requires-clause-enough g t c =
-    let told = payload_told c.args.resolve.now.types c.args.ty c.flat_types-flat.result c.flat_types-flat.ensures c.if-flat.false in
+    let told = payload_told c.args.resolve.now.types c.args.ty c.flat_types-flat.result c.flat_types-flat.ensures (no_more c.args.resolve.now.types c.args.ty c.flat_types-flat.result c.flat_types-flat.ensures (few_words c.args.resolve.now.types c.args.ty c.args.slots.now c.requires.fits c.requires.sixteen)) in
     c.in_ok-lowered.ensures.lowers.fits ∙ sym (ap length told)
 
 pub lower_payload-slice_bounds-zero_words-count : goal.lower_payload-slice_bounds-zero_words-count
 lower_payload-slice_bounds-zero_words-count g t c =
-    let is = payload_count c.args.resolve.now.types c.args.ty c.flat_types-flat.result c.flat_types-flat.ensures c.if-flat.false in
+    let is = payload_count c.args.resolve.now.types c.args.ty c.flat_types-flat.result c.flat_types-flat.ensures (no_more c.args.resolve.now.types c.args.ty c.flat_types-flat.result c.flat_types-flat.ensures (few_words c.args.resolve.now.types c.args.ty c.args.slots.now c.requires.fits c.requires.sixteen)) in
     let most = fit_length (payload_words c.args.resolve.now.types (Some c.args.ty)) c.args.slots.now c.requires.fits in
     omega (arith, is, most)
 
 pub lower_payload-slice_bounds-zero_words-start : goal.lower_payload-slice_bounds-zero_words-start
 lower_payload-slice_bounds-zero_words-start g t c =
-    let is = payload_count c.args.resolve.now.types c.args.ty c.flat_types-flat.result c.flat_types-flat.ensures c.if-flat.false in
+    let is = payload_count c.args.resolve.now.types c.args.ty c.flat_types-flat.result c.flat_types-flat.ensures (no_more c.args.resolve.now.types c.args.ty c.flat_types-flat.result c.flat_types-flat.ensures (few_words c.args.resolve.now.types c.args.ty c.args.slots.now c.requires.fits c.requires.sixteen)) in
     let most = fit_length (payload_words c.args.resolve.now.types (Some c.args.ty)) c.args.slots.now c.requires.fits in
     let within : c.flat_types-flat.result.count ≤ length c.args.slots.now = omega (arith, is, most) in
     within
@@ -326,8 +341,8 @@ lower_payload-returns g t c =
     let slots = c.args.slots.now in
     let f = c.flat_types-flat.result in
     let words = payload_words types (Some ty) in
-    let told = payload_told types ty f c.flat_types-flat.ensures c.if-flat.false in
-    let is = payload_count types ty f c.flat_types-flat.ensures c.if-flat.false in
+    let told = payload_told types ty f c.flat_types-flat.ensures (no_more c.args.resolve.now.types c.args.ty c.flat_types-flat.result c.flat_types-flat.ensures (few_words c.args.resolve.now.types c.args.ty c.args.slots.now c.requires.fits c.requires.sixteen)) in
+    let is = payload_count types ty f c.flat_types-flat.ensures (no_more c.args.resolve.now.types c.args.ty c.flat_types-flat.result c.flat_types-flat.ensures (few_words c.args.resolve.now.types c.args.ty c.args.slots.now c.requires.fits c.requires.sixteen)) in
     let b = c.push_block.new.self in
     let named = c.send_one.new.bindgen in
     let numbered = c.send_one-2.new.bindgen in
@@ -405,3 +420,21 @@ lower_variant-returns g t c =
       lowers = variant_lowers m g.met.B.Bindgen.sound r c.requires.down c.args.id realloc _ _ kind n _ c.args.value c.in_ok-words.words here c.requires.cases many most blocks e;
       sends = sends_as m types _ _ _ _ (lower_variant_code types c.requires.down c.args.id here.entry here.stands realloc kind here.kind c.requires.cases) (sends_both m types _ _ _ _ _ sent (sends_one m types (case_lowering kind c.args.id (case_words types (payloads_of kind))) _ _ _ _ told));
     }
+
+pub lower_id-unreachable-requires : goal.lower_id-unreachable-requires
+lower_id-unreachable-requires g t c =
+    let types = c.args.resolve.now.types in
+    let d = c.index-types-at.result in
+    let k = (get_or c.as_slice-types.result.now c.args.id.0 d).kind in
+    let at = entry_at types c.as_slice-types.result.now c.args.id.0 d c.as_slice-types.ensures c.requires.within c.index-types-at.is in
+    let not = c.in_default in
+    other_refused types c.requires.down c.args.id.0 k (record { entry = d; stands = at; kind = ap (λ (t : TypeDef). t.kind) c.index-types-at.is }) c.requires.serves
+    (record { alias = not.not-Alias; tuple = not.not-Tuple; option = not.not-Option; result = not.not-Result; fields = not.not-Record; variant = not.not-Variant; enum = not.not-Enum; flags = not.not-Flags })
+
+pub lower_tuple-part_count-requires : goal.lower_tuple-part_count-requires
+lower_tuple-part_count-requires g t c = record { short = omega (arith, ap length c.as_slice-tys.ensures, tuple_short c.args.resolve.now c.requires.well c.args.id.0 c.args.members.now c.requires.here) }
+
+pub lower_payload-lower_type-requires : goal.lower_payload-lower_type-requires
+lower_payload-lower_type-requires g t c κs within =
+    let few = few_words c.args.resolve.now.types c.args.ty c.args.slots.now c.requires.fits c.requires.sixteen in
+    search rules

@@ -11,10 +11,9 @@ use Rattle.wit_model.specs.declared.types.WitType.{WitType}
 use Rattle.wit_model.specs.declared.types.WitType.TheVariants as wit
 use Rattle.wit_layout.proofs.FlattenSteps.{payload_rank, rank}
 use Rattle.wit_model.specs.declared.wasm_type.WasmType.{WasmType}
-use Rattle.wrapper_meaning.specs.Shape.{Shape, payload_in, payloads_in, shape_at, shape_of, shapes}
+use Rattle.wrapper_meaning.specs.Shape.{Shape, payload_in, payloads_in, shape_of, shapes}
 use Rattle.wrapper_meaning.specs.Shape.Shape.{cases}
 use Rattle.wrapper_meaning.specs.Shape.Shapes.{none, more}
-use Rattle.abi_bindgen.specs.Blocks.{Finishes}
 use Rattle.abi_bindgen.specs.CaseBlocks.{LiftsCases}
 use Rattle.abi_bindgen.specs.Cases.{payloads_of, result_counts}
 use Rattle.abi_bindgen.specs.declared.instruction.Instruction.{Instruction}
@@ -25,6 +24,7 @@ use Rattle.abi_bindgen.specs.Instructions.{Emits, IsRecord, IsSendable, Makes, c
 use Rattle.abi_bindgen.specs.Lifts.{LiftsAll, LiftsFlat}
 use Rattle.abi_bindgen.specs.Sends.{Sends}
 use Rattle.abi_bindgen.specs.Sent.{Sent, closes, sends}
+use Rattle.abi_bindgen.specs.Served.{Serves, ServesAll}
 use Rattle.abi_bindgen.specs.SlotCasts.{AreOrdered, CastsAll, FitIn}
 use Rattle.abi_bindgen.proofs.BlockRuns.{grows_alike, grows_none}
 use Rattle.abi_driver.proofs.CaseLifts.{full_lifts}
@@ -32,11 +32,12 @@ use Rattle.abi_driver.proofs.LiftedVariants.{all_used, lifting_makes, lifts_done
 use Rattle.abi_bindgen.proofs.Payloads.{count_told, payload_count, payload_in_table, payload_ranked, payload_told, slots_told, variant_below, variant_shape, payload_some}
 use Rattle.abi_bindgen.proofs.WordBits.{fit_length, of_slots, payload_fits}
 use Rattle.abi_bindgen.proofs.FlatCode.{lift_alias_code, lift_record_code, lift_tuple_code, lift_variant_code}
-use Rattle.abi_driver.specs.WordCount.{word_count, word_counts}
+use Rattle.abi_bindgen.specs.WordCount.{word_count, word_counts}
 use Rattle.abi_driver.proofs.LiftedArguments.{words_left, words_next}
-use Rattle.abi_driver.proofs.WordCounts.{alias_words, enum_words, few_words, flags_words, no_more, record_words, scalar_words, tuple_words, variant_words}
-use Rattle.abi_driver.proofs.LiftSteps.{lifts_all_as, lifts_as, record_lifts, rest_last, rest_next, tuple_lifts}
-use Rattle.abi_bindgen.proofs.Records.{alias_below, alias_rank, alias_shape, count-shapes, drop-same, entry_at, kind_at, one_record, part_below_within, part_ranked, payload_type_low, record_below, record_shape, tuple_below, tuple_shape}
+use Rattle.abi_driver.proofs.LiftSteps.{lifts_all_as, lifts_as, record_lifts, rest_last, rest_next, scalar_words, tuple_lifts}
+use Rattle.abi_bindgen.proofs.Records.{alias_below, alias_rank, alias_shape, count-shapes, drop-same, entry_at, kind_at, one_record, part_below_within, part_ranked, payload_type_low, record_below, record_shape, tuple_below, tuple_shape, tuple_short}
+use Rattle.abi_bindgen.proofs.Serving.{alias_served, enum_served, other_refused, part_served, payload_served, payloads_served, record_served, tuple_served}
+use Rattle.abi_bindgen.proofs.WordCounts.{alias_words, enum_words, few_words, flags_words, no_more, record_words, tuple_words, variant_words}
 use Rattle.abi_bindgen.proofs.SendSteps.{sends_as, sends_both, sends_last, sends_next, sends_one}
 use Rattle.abi_driver.proofs.lift.+lift.Goals as goal
 
@@ -64,9 +65,10 @@ lift_type-lift_id-requires g t c κs within =
     let deep : rank c.args.ty ≡ c.in-Id.id.0 + 1 = ap rank c.in-Id.is ∙ omega arith in
     let types = c.args.resolve.now.types in
     let inside : c.in-Id.id.0 < n = ltb-true c.in-Id.id.0 n (ap (type_below n) (sym c.in-Id.is) ∙ c.requires.below) in
+    let serves = subst (λ (ty : WitType). Serves (shape_of types ty)) c.in-Id.is c.requires.serves in
     let few = subst (λ (ty : WitType). word_count types ty ≤ 16) c.in-Id.is c.requires.few in
     let enough = subst (λ (ty : WitType). c.args.at + word_count types ty ≤ length c.args.words.now) c.in-Id.is c.requires.enough in
-    (omega arith, (within.0, (within.1, (c.requires.well, (c.requires.down, (inside, (few, enough)))))))
+    (omega arith, (within.0, (within.1, (c.requires.well, (c.requires.down, (inside, (serves, (few, enough))))))))
 
 pub lift_type-returns-in-String : goal.lift_type-returns-in-String
 lift_type-returns-in-String g t c =
@@ -102,8 +104,9 @@ lift_id-lift_type-requires g t c κs within =
     let is = kind_at c.as_slice-types.result.now c.args.id.0 d (kind.Alias c.in-Alias.ty) c.index-types-place.is c.in-Alias.is in
     let low : rank c.in-Alias.ty ≤ c.args.id.0 = alias_rank types c.requires.down c.args.id.0 d at c.in-Alias.ty is in
     let below = alias_below types c.requires.down c.args.id.0 d at c.in-Alias.ty is c.requires.within in
+    let serves = alias_served types c.requires.down c.args.id.0 d at c.requires.serves c.in-Alias.ty is in
     let same = alias_words types c.requires.down c.args.id d at c.in-Alias.ty is in
-    (omega (arith, low), (within.0, (within.1, (c.requires.well, (c.requires.down, (below, (omega (arith, same, c.requires.few), omega (arith, same, c.requires.enough))))))))
+    (omega (arith, low), (within.0, (within.1, (c.requires.well, (c.requires.down, (below, (serves, (omega (arith, same, c.requires.few), omega (arith, same, c.requires.enough)))))))))
 
 pub lift_id-lift_parts-requires : goal.lift_id-lift_parts-requires
 lift_id-lift_parts-requires g t c κs within =
@@ -115,8 +118,9 @@ lift_id-lift_parts-requires g t c κs within =
     let read = c.as_slice-tys.result.now in
     let same : read ≡ map (λ (f : Field). f.ty) members = c.as_slice-tys.ensures ∙ c.in_ok-tys-in-Record.ensures ∙ ap (map (λ (f : Field). f.ty)) c.as_slice.ensures in
     let below = subst (λ (xs : List WitType). list_all (λ ty. type_below c.args.id.0 ty) xs ≡ true) (sym same) (record_below types c.requires.down c.args.id.0 d at members is) in
+    let serves = subst (λ (xs : List WitType). ServesAll (shapes_of types xs)) (sym same) (record_served types c.requires.down c.args.id.0 d at c.requires.serves members is) in
     let many = record_words types c.requires.down c.args.id d at members is ∙ ap (word_counts types) (sym same) in
-    (omega arith, (within.0, (within.1, (c.requires.well, (c.requires.down, (omega (arith, c.requires.within), (below, (omega (arith, many, c.requires.few), omega (arith, many, c.requires.enough)))))))))
+    (omega arith, (within.0, (within.1, (c.requires.well, (c.requires.down, (omega (arith, c.requires.within), (below, (serves, (omega (arith, many, c.requires.few), omega (arith, many, c.requires.enough))))))))))
 
 pub lift_id-send_one-requires-clause-ready : goal.lift_id-send_one-requires-clause-ready
 lift_id-send_one-requires-clause-ready g t c =
@@ -135,7 +139,7 @@ lift_id-send_one-requires-clause-makes g t c = λ k h. h
 
 pub lift_id-send_one-requires-in-Tuple : goal.lift_id-send_one-requires-in-Tuple
 lift_id-send_one-requires-in-Tuple g t c =
-    record { ready = record { operands = c.in_ok-lifted-in-Tuple.ensures.count ∙ sym c.in_ok-part_count-in-Tuple.ensures; suits = tt }; makes = λ k h. h }
+    record { ready = record { operands = c.in_ok-lifted-in-Tuple.ensures.count ∙ sym c.part_count.ensures; suits = tt }; makes = λ k h. h }
 
 pub lift_id-lift_parts-requires-in-Tuple : goal.lift_id-lift_parts-requires-in-Tuple
 lift_id-lift_parts-requires-in-Tuple g t c κs within =
@@ -144,8 +148,9 @@ lift_id-lift_parts-requires-in-Tuple g t c κs within =
     let at = entry_at types c.as_slice-types.result.now c.args.id.0 d c.as_slice-types.ensures c.requires.within c.index-types-place.is in
     let is = kind_at c.as_slice-types.result.now c.args.id.0 d (kind.Tuple c.in-Tuple.members) c.index-types-place.is c.in-Tuple.is in
     let below = subst (λ (xs : List WitType). list_all (λ ty. type_below c.args.id.0 ty) xs ≡ true) (sym c.as_slice-tys-in-Tuple.ensures) (tuple_below types c.requires.down c.args.id.0 d at c.in-Tuple.members is) in
+    let serves = subst (λ (xs : List WitType). ServesAll (shapes_of types xs)) (sym c.as_slice-tys-in-Tuple.ensures) (tuple_served types c.requires.down c.args.id.0 d at c.requires.serves c.in-Tuple.members is) in
     let many = tuple_words types c.requires.down c.args.id d at c.in-Tuple.members is ∙ ap (word_counts types) (sym c.as_slice-tys-in-Tuple.ensures) in
-    (omega arith, (within.0, (within.1, (c.requires.well, (c.requires.down, (omega (arith, c.requires.within), (below, (omega (arith, many, c.requires.few), omega (arith, many, c.requires.enough)))))))))
+    (omega arith, (within.0, (within.1, (c.requires.well, (c.requires.down, (omega (arith, c.requires.within), (below, (serves, (omega (arith, many, c.requires.few), omega (arith, many, c.requires.enough))))))))))
 
 pub lift_id-lift_enum-requires-clause-here : goal.lift_id-lift_enum-requires-clause-here
 lift_id-lift_enum-requires-clause-here g t c =
@@ -211,7 +216,7 @@ lift_id-lift_variant-requires g t c κs within =
     let k = (get_or c.as_slice-types.result.now c.args.id.0 d).kind in
     let here : IsKindOf types c.args.id.0 k = record { entry = d; stands = at; kind = ap (λ (x : TypeDef). x.kind) c.index-types-place.is } in
     let cases : has_cases k ≡ true = ap has_cases c.in-Variant.is in
-    (omega arith, (within.0, (within.1, (c.requires.well, (c.requires.down, (here, (cases, (c.requires.few, c.requires.enough))))))))
+    (omega arith, (within.0, (within.1, (c.requires.well, (c.requires.down, (here, (cases, (c.requires.serves, (c.requires.few, c.requires.enough)))))))))
 
 pub lift_id-lift_variant-requires-in-Option : goal.lift_id-lift_variant-requires-in-Option
 lift_id-lift_variant-requires-in-Option g t c κs within =
@@ -221,7 +226,7 @@ lift_id-lift_variant-requires-in-Option g t c κs within =
     let k = (get_or c.as_slice-types.result.now c.args.id.0 d).kind in
     let here : IsKindOf types c.args.id.0 k = record { entry = d; stands = at; kind = ap (λ (x : TypeDef). x.kind) c.index-types-place.is } in
     let cases : has_cases k ≡ true = ap has_cases c.in-Option.is in
-    (omega arith, (within.0, (within.1, (c.requires.well, (c.requires.down, (here, (cases, (c.requires.few, c.requires.enough))))))))
+    (omega arith, (within.0, (within.1, (c.requires.well, (c.requires.down, (here, (cases, (c.requires.serves, (c.requires.few, c.requires.enough)))))))))
 
 pub lift_id-lift_variant-requires-in-Result : goal.lift_id-lift_variant-requires-in-Result
 lift_id-lift_variant-requires-in-Result g t c κs within =
@@ -231,7 +236,7 @@ lift_id-lift_variant-requires-in-Result g t c κs within =
     let k = (get_or c.as_slice-types.result.now c.args.id.0 d).kind in
     let here : IsKindOf types c.args.id.0 k = record { entry = d; stands = at; kind = ap (λ (x : TypeDef). x.kind) c.index-types-place.is } in
     let cases : has_cases k ≡ true = ap has_cases c.in-Result.is in
-    (omega arith, (within.0, (within.1, (c.requires.well, (c.requires.down, (here, (cases, (c.requires.few, c.requires.enough))))))))
+    (omega arith, (within.0, (within.1, (c.requires.well, (c.requires.down, (here, (cases, (c.requires.serves, (c.requires.few, c.requires.enough)))))))))
 
 pub lift_id-returns-in-Alias : goal.lift_id-returns-in-Alias
 lift_id-returns-in-Alias g t c =
@@ -277,16 +282,16 @@ lift_id-returns-in_ok-operand-in-Tuple g t c =
     let is = kind_at c.as_slice-types.result.now c.args.id.0 d (kind.Tuple c.in-Tuple.members) c.index-types-place.is c.in-Tuple.is in
     let tys = c.in-Tuple.members in
     let lifted = lifts_all_as m g.met.B.Bindgen.sound types _ _ _ _ c.args.words.now c.args.at c.in_ok-lifted-in-Tuple.lifted.next c.in_ok-lifted-in-Tuple.lifted.parts c.as_slice-tys-in-Tuple.ensures c.in_ok-lifted-in-Tuple.ensures.lifts in
-    let count = count-shapes types tys ∙ sym (c.in_ok-part_count-in-Tuple.ensures ∙ ap length c.as_slice-tys-in-Tuple.ensures) in
-    let whole = tuple_lifts m g.met.B.Bindgen.sound types c.in_ok-part_count-in-Tuple.field-0 (shapes_of types tys) _ _ _ lifted.0 c.in_ok-lifted-in-Tuple.lifted.parts c.in_ok-operand-in-Tuple.operand count lifted.2 c.in_ok-operand-in-Tuple.ensures in
-    let many : length tys ≡ c.in_ok-part_count-in-Tuple.field-0 = sym (c.in_ok-part_count-in-Tuple.ensures ∙ ap length c.as_slice-tys-in-Tuple.ensures) in
+    let count = count-shapes types tys ∙ sym (c.part_count.ensures ∙ ap length c.as_slice-tys-in-Tuple.ensures) in
+    let whole = tuple_lifts m g.met.B.Bindgen.sound types c.part_count.result (shapes_of types tys) _ _ _ lifted.0 c.in_ok-lifted-in-Tuple.lifted.parts c.in_ok-operand-in-Tuple.operand count lifted.2 c.in_ok-operand-in-Tuple.ensures in
+    let many : length tys ≡ c.part_count.result = sym (c.part_count.ensures ∙ ap length c.as_slice-tys-in-Tuple.ensures) in
     let parts = sends_as m types _ _ _ _ (ap (each (λ n ty. lift_code types ty) 0) (sym c.as_slice-tys-in-Tuple.ensures)) c.in_ok-lifted-in-Tuple.ensures.sends in
     let code = lift_tuple_code types c.requires.down c.args.id d at tys is ∙ ap (λ n. each (λ n ty. lift_code types ty) 0 tys ++ sends (TupleLift n) ∷ []) many in
     let all = tuple_words types c.requires.down c.args.id d at tys is ∙ ap (word_counts types) (sym c.as_slice-tys-in-Tuple.ensures) in
     record {
       next = c.in_ok-lifted-in-Tuple.ensures.next ∙ ap (λ n. c.args.at + n) (sym all);
       lifts = lifts_as m g.met.B.Bindgen.sound types _ _ _ _ c.args.words.now c.args.at c.in_ok-lifted-in-Tuple.lifted.next c.in_ok-operand-in-Tuple.operand (tuple_shape types c.requires.down c.args.id.0 d at tys is) (lifted.0, lifted.1, whole);
-      sends = sends_as m types _ _ _ _ code (sends_both m types _ _ _ _ _ parts (sends_one m types (TupleLift c.in_ok-part_count-in-Tuple.field-0) _ _ _ _ c.in_ok-operand-in-Tuple.ensures));
+      sends = sends_as m types _ _ _ _ code (sends_both m types _ _ _ _ _ parts (sends_one m types (TupleLift c.part_count.result) _ _ _ _ c.in_ok-operand-in-Tuple.ensures));
     }
 
 pub lift_parts-loop-i-init : goal.lift_parts-loop-i-init
@@ -300,11 +305,12 @@ lift_parts-lift_type-requires g t c κs within =
     let short : c.loop-i.i < length c.args.tys.now = omega (arith, c.loop-i-test.true) in
     let low : rank (get_or c.args.tys.now c.loop-i.i wit.Bool) ≤ c.args.place = part_ranked c.args.place c.args.tys.now c.requires.below c.loop-i.i wit.Bool short in
     let below = part_below_within c.args.place c.args.tys.now c.requires.below c.loop-i.i wit.Bool short (length types) c.requires.within in
+    let serves = part_served types c.args.tys.now c.loop-i.i wit.Bool c.requires.serves short in
     let inv = c.loop-i.invariant in
     let next = words_next types c.args.tys.now c.loop-i.i (get_or c.args.tys.now c.loop-i.i wit.Bool) (drop_more c.args.tys.now c.loop-i.i wit.Bool short) in
     let few : word_count types (get_or c.args.tys.now c.loop-i.i wit.Bool) ≤ 16 = omega (arith, next, inv.left, inv.low, c.requires.few) in
     let enough : c.loop-i.next + word_count types (get_or c.args.tys.now c.loop-i.i wit.Bool) ≤ length c.args.words.now = omega (arith, next, inv.left, c.requires.enough) in
-    (omega (arith, low), (within.0, (within.1, (c.requires.well, (c.requires.down, (below, (few, enough)))))))
+    (omega (arith, low), (within.0, (within.1, (c.requires.well, (c.requires.down, (below, (serves, (few, enough))))))))
 
 pub lift_parts-loop-i-preserved : goal.lift_parts-loop-i-preserved
 lift_parts-loop-i-preserved g t c =
@@ -346,8 +352,9 @@ lift_cases-lift_case-requires g t c κs within =
     let short : i < length payloads = omega (arith, c.loop-i-test.true) in
     let low : payload_rank (get_or payloads i None) ≤ c.args.id.0 = payload_ranked c.args.id.0 payloads i None c.requires.below short in
     let below : payload_below (length types) (get_or payloads i None) ≡ true = payload_in_table c.args.id.0 (length types) payloads i None c.requires.within c.requires.below short in
+    let serves = payload_served types payloads i None c.requires.serves short in
     let fits : FitIn (payload_words types (get_or payloads i None)) c.args.slots.now = subst (FitIn (payload_words types (get_or payloads i None))) (sym c.requires.shared) (payload_fits types payloads i None short) in
-    (omega (arith, low), (within.0, (within.1, (c.requires.well, (c.requires.down, (below, (fits, (c.requires.few, c.requires.enough))))))))
+    (omega (arith, low), (within.0, (within.1, (c.requires.well, (c.requires.down, (below, (serves, (fits, (c.requires.few, c.requires.enough)))))))))
 
 pub lift_cases-loop-i-init : goal.lift_cases-loop-i-init
 lift_cases-loop-i-init g t c = record { grows = grows_none g.B.Bindgen.meaning c.args.bindgen.now; code = refl; sent = refl; rest = λ new h. h }
@@ -423,7 +430,7 @@ lift_payload-lift_type-requires g t c κs within =
     let most = fit_length (payload_words types (Some c.args.ty)) slots c.requires.fits in
     let many = length-take-le f.count slots (omega (arith, is, most)) in
     let enough : 0 + word_count types c.args.ty ≤ length c.as_slice.result.now = omega (arith, ap length c.as_slice.ensures, c.in_ok-used.ensures.casts.fits, many, is) in
-    (omega arith, (within.0, (within.1, (c.requires.well, (c.requires.down, (c.requires.below, (few, enough)))))))
+    (omega arith, (within.0, (within.1, (c.requires.well, (c.requires.down, (c.requires.below, (c.requires.serves, (few, enough))))))))
 
 pub lift_payload-close_payload-requires : goal.lift_payload-close_payload-requires
 lift_payload-close_payload-requires g t c =
@@ -488,12 +495,13 @@ lift_variant-lift_cases-requires g t c κs within =
     let inside : c.args.id.0 < length types = slice_get_within types c.args.id.0 here.entry here.stands in
     let below : list_all (λ payload. payload_below c.args.id.0 payload) c.as_slice-payloads.result.now ≡ true =
     subst (λ (ps : List (Option WitType)). list_all (λ payload. payload_below c.args.id.0 payload) ps ≡ true) (sym same) (variant_below types c.requires.down c.args.id.0 kind here c.requires.cases) in
+    let serves = subst (λ (ps : List (Option WitType)). ServesAll (payloads_in (shapes types) ps)) (sym same) (payloads_served types c.args.id.0 (payloads_of kind) shape c.requires.serves) in
     let shared : take (f.count - 1) (drop 1 f.words) ≡ shared_slots types c.as_slice-payloads.result.now = told ∙ ap (shared_slots types) (sym same) in
     let n = c.args.at + f.count - (c.args.at + 1) in
     let room : n ≤ length (drop (c.args.at + 1) words) = omega (arith, is, variant_words types c.requires.down c.args.id kind c.requires.here c.requires.cases, c.requires.enough, length-drop (c.args.at + 1) words) in
     let enough : length (take n (drop (c.args.at + 1) words)) ≡ length (take (f.count - 1) (drop 1 f.words)) = length-take-le n (drop (c.args.at + 1) words) room ∙ (let e : n ≡ length (shared_slots types (payloads_of kind)) = omega (arith, is) in e) ∙ sym (ap length told) in
     let few : length (take (f.count - 1) (drop 1 f.words)) ≤ 16 = omega (arith, ap length told, variant_words types c.requires.down c.args.id kind here c.requires.cases, c.requires.few) in
-    (omega arith, (within.0, (within.1, (c.requires.well, (c.requires.down, (inside, (below, (shared, (few, enough)))))))))
+    (omega arith, (within.0, (within.1, (c.requires.well, (c.requires.down, (inside, (below, (serves, (shared, (few, enough))))))))))
 
 pub lift_variant-returns : goal.lift_variant-returns
 lift_variant-returns g t c =
@@ -535,8 +543,9 @@ lift_case-lift_payload-requires g t c κs within =
     let types = c.args.resolve.now.types in
     let deep : payload_rank c.args.payload ≡ rank c.in-Some.ty = ap payload_rank c.in-Some.is in
     let below = payload_type_low (length types) c.in-Some.ty (subst (λ (p : Option WitType). payload_below (length types) p ≡ true) c.in-Some.is c.requires.below) in
+    let serves = subst (λ (p : Option WitType). Serves (payload_in (shapes types) p)) c.in-Some.is c.requires.serves in
     let fits = subst (λ (p : Option WitType). FitIn (payload_words types p) c.args.slots.now) c.in-Some.is c.requires.fits in
-    (omega (arith, deep), (within.0, (within.1, (c.requires.well, (c.requires.down, (below, (fits, (c.requires.few, c.requires.enough))))))))
+    (omega (arith, deep), (within.0, (within.1, (c.requires.well, (c.requires.down, (below, (serves, (fits, (c.requires.few, c.requires.enough)))))))))
 
 pub lift_case-returns-in_ok-lift_bare-in-None : goal.lift_case-returns-in_ok-lift_bare-in-None
 lift_case-returns-in_ok-lift_bare-in-None g t c =
@@ -673,3 +682,30 @@ lift_variant-send_one-requires g t c =
           (subst (λ (os : List g.row.B-Operand.Denot). IsSendable m r (case_lifting kind c.args.id) os c.lift_cases.new.bindgen) (sym c.in_ok-operands.ensures) ready);
       makes = λ k h. lifting_makes types kind c.args.id k (subst (λ (i : Instruction). Makes types i k) c.case_lifting.ensures h);
     }
+
+pub lift_id-unreachable-requires : goal.lift_id-unreachable-requires
+lift_id-unreachable-requires g t c =
+    let types = c.args.resolve.now.types in
+    let d = c.index-types-place.result in
+    let k = (get_or c.as_slice-types.result.now c.args.id.0 d).kind in
+    let at = entry_at types c.as_slice-types.result.now c.args.id.0 d c.as_slice-types.ensures c.requires.within c.index-types-place.is in
+    let not = c.in_default in
+    other_refused types c.requires.down c.args.id.0 k (record { entry = d; stands = at; kind = ap (λ (t : TypeDef). t.kind) c.index-types-place.is }) c.requires.serves
+    (record { alias = not.not-Alias; tuple = not.not-Tuple; option = not.not-Option; result = not.not-Result; fields = not.not-Record; variant = not.not-Variant; enum = not.not-Enum; flags = not.not-Flags })
+
+pub lift_id-part_count-requires : goal.lift_id-part_count-requires
+lift_id-part_count-requires g t c =
+    let types = c.args.resolve.now.types in
+    let d = c.index-types-place.result in
+    let at = entry_at types c.as_slice-types.result.now c.args.id.0 d c.as_slice-types.ensures c.requires.within c.index-types-place.is in
+    let is = kind_at c.as_slice-types.result.now c.args.id.0 d (kind.Tuple c.in-Tuple.members) c.index-types-place.is c.in-Tuple.is in
+    let short = tuple_short c.args.resolve.now c.requires.well c.args.id.0 c.in-Tuple.members (record { entry = d; stands = at; kind = is }) in
+    record { short = omega (arith, ap length c.as_slice-tys-in-Tuple.ensures, short) }
+
+pub lift_id-lift_enum-requires-clause-few : goal.lift_id-lift_enum-requires-clause-few
+lift_id-lift_enum-requires-clause-few g t c =
+    let types = c.args.resolve.now.types in
+    let d = c.index-types-place.result in
+    let at = entry_at types c.as_slice-types.result.now c.args.id.0 d c.as_slice-types.ensures c.requires.within c.index-types-place.is in
+    let is = kind_at c.as_slice-types.result.now c.args.id.0 d (kind.Enum c.in-Enum.members) c.index-types-place.is c.in-Enum.is in
+    enum_served types c.requires.down c.args.id.0 d at c.requires.serves c.in-Enum.members is

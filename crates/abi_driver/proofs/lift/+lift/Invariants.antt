@@ -8,7 +8,7 @@ use Rattle.abi_bindgen.specs.Laws.{Grows}
 use Rattle.abi_bindgen.specs.Instructions.{shapes_of}
 use Rattle.abi_bindgen.specs.Lifts.{LiftsAll}
 use Rattle.abi_bindgen.specs.Sends.{Sends}
-use Rattle.abi_driver.specs.WordCount.{word_counts}
+use Rattle.abi_bindgen.specs.WordCount.{word_counts}
 use Rattle.abi_driver.proofs.LiftedArguments.{words_left}
 use Rattle.abi_driver.proofs.lift.+lift.Given as goal
 

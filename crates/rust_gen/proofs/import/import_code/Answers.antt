@@ -9,6 +9,8 @@ pub import_body-requires : goal.import_body-requires
 import_body-requires c = record {
   well = c.requires.well;
   within = c.requires.within;
+  serves = c.requires.code.serves;
+  small = c.requires.code.small;
   parts = c.in_ok-parts.ensures.are;
   many = ap length c.in_ok-parts.ensures.params ∙ length-map c.args.f.now.params import_site;
 }

@@ -1,4 +1,4 @@
-use Rattle.std.proofs.Common.{◌++◌, ◌∙◌, ap, map, refl, subst}
+use Rattle.std.proofs.Common.{◌++◌, ◌∙◌, ap, map, refl, subst, sym}
 use Rattle.std.specs.List.{AllZip}
 use Rattle.rust_tree.specs.declared.item.Item.TheVariants as item
 use Rattle.rust_tree.specs.Asked.{asked_in}
@@ -9,6 +9,7 @@ use Rattle.type_sites.specs.Sites.{type_sites}
 use Rattle.type_sites.proofs.SitesDefined.{sites-can-be-defined}
 use Rattle.rust_gen.specs.Asking.{ExportAsks, asked_order, asking_items, bare}
 use Rattle.rust_gen.specs.Exported.{last_macro}
+use Rattle.rust_gen.specs.Known.{HaveCode}
 use Rattle.rust_gen.specs.Runtime.{runtime_items}
 use Rattle.rust_gen.proofs.OrderLemmas.{exports-written, imports-written, order-made, serves-order}
 use Rattle.rust_gen.proofs.TreeLemmas.{all-made, own-made}
@@ -29,6 +30,11 @@ push_wrappers-requires-clause-found c = c.requires.types.found
 
 pub push_wrappers-requires-clause-shallow : goal.push_wrappers-requires-clause-shallow
 push_wrappers-requires-clause-shallow c = c.requires.types.shallow
+
+pub push_wrappers-requires-clause-exports_code : goal.push_wrappers-requires-clause-exports_code
+push_wrappers-requires-clause-exports_code c =
+    let methods = ap (map (λ f. f.now)) c.as_slice-exports.ensures.value ∙ c.in_ok-exports.ensures ∙ ap functions_in c.as_slice-2.ensures in
+    subst (HaveCode c.args.resolve.now.types) (sym methods) c.requires.exports_code
 
 -- the items before the runtime items, step by step, and then those behind them
 pub returns-clause-order : goal.returns-clause-order

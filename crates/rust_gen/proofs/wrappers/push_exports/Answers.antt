@@ -4,7 +4,7 @@ use Rattle.std.specs.List.{flat_map}
 use Rattle.wit_model.specs.IndexRange.{function_in_range}
 use Rattle.rust_gen.specs.Asking.{ExportAsks, bare}
 use Rattle.rust_gen.specs.Bound.{areas_of, export_items}
-use Rattle.rust_gen.specs.Known.{sites_in}
+use Rattle.rust_gen.specs.Known.{HasCode, sites_in}
 use Rattle.rust_gen.proofs.OrderLemmas.{asked-more, bare-more}
 use Rattle.rust_gen.proofs.TreeLemmas.{areas-more, at-loop, items-more, wraps-more}
 use Rattle.rust_gen.proofs.wrappers.push_exports.Goals as goal
@@ -12,6 +12,10 @@ use Rattle.rust_gen.proofs.wrappers.push_exports.Goals as goal
 pub push_export-requires-clause-within : goal.push_export-requires-clause-within
 push_export-requires-clause-within c =
     at-loop (λ f. function_in_range c.args.resolve.now f ≡ true) c.args.functions.now c.requires.within c.loop-function.function-index c.function-item.result (omega arith) c.function-item.is
+
+pub push_export-requires-clause-code : goal.push_export-requires-clause-code
+push_export-requires-clause-code c =
+    at-loop (HasCode c.args.resolve.now.types) c.args.functions.now c.requires.code c.loop-function.function-index c.function-item.result (omega arith) c.function-item.is
 
 pub push_export-requires-clause-tables : goal.push_export-requires-clause-tables
 push_export-requires-clause-tables c = c.loop-function.invariant.0

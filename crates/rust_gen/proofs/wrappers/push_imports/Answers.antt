@@ -5,7 +5,7 @@ use Rattle.wit_model.specs.IndexRange.{function_in_range}
 use Rattle.rust_tree.specs.declared.item.Item.TheVariants as item
 use Rattle.gen_accept.specs.DeclaredNames.{param_idents}
 use Rattle.rust_gen.specs.Asking.{ImportAsks, bare}
-use Rattle.rust_gen.specs.Known.{sites_in}
+use Rattle.rust_gen.specs.Known.{HasCode, sites_in}
 use Rattle.rust_gen.proofs.OrderLemmas.{asked-more, bare-more}
 use Rattle.rust_gen.proofs.TreeLemmas.{at-loop, wraps-more}
 use Rattle.rust_gen.proofs.wrappers.push_imports.Goals as goal
@@ -17,6 +17,10 @@ push_import-requires-clause-within c =
 pub push_import-requires-clause-distinct : goal.push_import-requires-clause-distinct
 push_import-requires-clause-distinct c =
     at-loop (λ f. is_distinct (param_idents f) ≡ true) c.args.functions.now c.requires.distinct c.loop-function.function-index c.function-item.result (omega arith) c.function-item.is
+
+pub push_import-requires-clause-code : goal.push_import-requires-clause-code
+push_import-requires-clause-code c =
+    at-loop (HasCode c.args.resolve.now.types) c.args.functions.now c.requires.code c.loop-function.function-index c.function-item.result (omega arith) c.function-item.is
 
 pub push_import-requires-clause-tables : goal.push_import-requires-clause-tables
 push_import-requires-clause-tables c = c.loop-function.invariant.0

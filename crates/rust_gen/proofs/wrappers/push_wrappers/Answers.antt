@@ -1,14 +1,19 @@
-use Rattle.std.proofs.Common.{◌≡◌, ◌++◌, ◌∙◌, ap, map, subst}
+use Rattle.std.proofs.Common.{◌≡◌, ◌++◌, ◌∙◌, ap, map, subst, sym}
 use Rattle.std.specs.List.{AllZip, flat_map}
 use Rattle.gen_accept.specs.Emitted.{functions_in, imported_functions}
 use Rattle.type_sites.specs.Sites.{type_sites}
 use Rattle.rust_gen.specs.Asking.{ExportAsks, ImportAsks, asked_with, bare}
 use Rattle.rust_gen.specs.Bound.{export_items}
-use Rattle.rust_gen.specs.Known.{sites_in}
+use Rattle.rust_gen.specs.Known.{HaveCode, sites_in}
 use Rattle.rust_gen.proofs.wrappers.push_wrappers.Goals as goal
 
 pub push_imports-requires-clause-facts : goal.push_imports-requires-clause-facts
 push_imports-requires-clause-facts c = record { checked = c.requires.well; shallow = c.requires.shallow; analyzed = (c.args.id, c.in_ok-facts.ensures) }
+
+pub push_imports-requires-clause-code : goal.push_imports-requires-clause-code
+push_imports-requires-clause-code c =
+    let functions = ap (map (λ f. f.now)) c.as_slice-2.ensures.value ∙ c.in_ok-imports.ensures ∙ ap functions_in c.as_slice.ensures in
+    subst (HaveCode c.args.resolve.now.types) (sym functions) c.requires.imports_code
 
 -- the tables that each body hands back are those of the world
 pub returns : goal.returns

@@ -1,5 +1,16 @@
 use Rattle.abi_driver.proofs.AreaAsked.{asks_for, is_power, sends_asking}
+use Rattle.abi_driver.proofs.LowPlaces.{sized}
 use Rattle.abi_driver.proofs.calls.area.point_at.Goals as goal
+
+pub size-size-requires : goal.size-size-requires
+size-size-requires g c =
+    let types = c.args.resolve.now.types in
+    sized c.sizes-sizes.result.now types (c.sizes-sizes.ensures types c.requires.knows) c.args.ty c.requires.below
+
+pub align-align-requires : goal.align-align-requires
+align-align-requires g c =
+    let types = c.args.resolve.now.types in
+    sized c.sizes-sizes.result.now types (c.sizes-sizes.ensures types c.requires.knows) c.args.ty c.requires.below
 
 pub return_pointer-requires : goal.return_pointer-requires
 return_pointer-requires g c =

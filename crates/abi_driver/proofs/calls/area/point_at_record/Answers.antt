@@ -1,5 +1,16 @@
+use mathlib.Core.Logic.{inr}
 use Rattle.abi_driver.proofs.AreaAsked.{asks_for_record, record_is_power, sends_asking_record}
+use Rattle.abi_driver.proofs.LowPlaces.{small_fits}
+use Rattle.abi_driver.proofs.RecordPlaces.{have_places}
 use Rattle.abi_driver.proofs.calls.area.point_at_record.Goals as goal
+
+pub record_of-align-requires-clause-room : goal.record_of-align-requires-clause-room
+record_of-align-requires-clause-room g c =
+    let types = c.args.resolve.now.types in
+    let sizes = c.sizes-sizes.result.now in
+    let tys = c.args.tys.now in
+    let filled = c.sizes-sizes.ensures types c.requires.knows in
+    inr (small_fits sizes tys (have_places sizes types tys filled c.requires.below) types filled c.requires.small)
 
 pub return_pointer-requires : goal.return_pointer-requires
 return_pointer-requires g c =

@@ -1,5 +1,4 @@
-use Rattle.std.proofs.Common.{◌<◌, ◌≤◌, [], ◌∷◌, List, length, get_or, slice_index, false, refl, sym, ◌∙◌, ap, subst, arith}
-use Rattle.std.specs.Prelude.{IfSome}
+use Rattle.std.proofs.Common.{◌<◌, ◌≤◌, ◌∷◌, List, length, get_or, slice_index, false, refl, sym, ◌∙◌, ap, subst, arith}
 use Rattle.std.proofs.lemmas.List.{drop_more}
 use Rattle.wit_model.specs.declared.size.ArchitectureSize.{ArchitectureSize}
 use Rattle.wit_model.specs.declared.types.WitType.TheVariants as wit
@@ -9,11 +8,12 @@ use Rattle.wit_layout.specs.Tree.{record_of}
 use Rattle.abi_bindgen.specs.declared.instruction.Instruction.TheVariants as instruction
 use Rattle.abi_bindgen.specs.Code.{place_in, store_code}
 use Rattle.abi_bindgen.specs.Frees.{nowhere}
-use Rattle.abi_bindgen.specs.Instructions.{Emits}
 use Rattle.abi_bindgen.specs.Sent.{sends}
 use Rattle.abi_driver.proofs.ArgumentSteps.{within_count}
+use Rattle.abi_bindgen.proofs.Serving.{part_served}
+use Rattle.abi_driver.proofs.LowPlaces.{small_fits, small_part}
 use Rattle.abi_driver.proofs.PartOffsets.{behind_next, pair_is}
-use Rattle.abi_driver.proofs.RecordPlaces.{record_place}
+use Rattle.abi_driver.proofs.RecordPlaces.{have_places, record_place}
 use Rattle.abi_driver.proofs.RecordStores.{rest_last, rest_next}
 use Rattle.abi_bindgen.proofs.Records.{part_below_within}
 use Rattle.abi_bindgen.proofs.Runs.{adds_both, adds_same}
@@ -27,20 +27,34 @@ pub argument-requires : goal.argument-requires
 argument-requires g c =
     let m = g.B.Bindgen.meaning in
     let short : c.loop-i.i < length c.args.tys.now = omega (arith, c.loop-i-test.true) in
-    let here = within_count (m.arguments c.args.bindgen.now) (m.arguments c.loop-i.bindgen) (length c.args.tys.now) c.loop-i.i c.loop-i.invariant.adds.grows.arguments c.requires.arguments short in
-    subst (λ n. IfSome (m.arguments c.loop-i.bindgen) (λ k. n < k)) (sym c.in_ok-number.ensures) here
+    within_count (m.arguments c.args.bindgen.now) (m.arguments c.loop-i.bindgen) (length c.args.tys.now) c.loop-i.i c.loop-i.invariant.adds.grows.arguments c.requires.arguments short
+
+pub record_places-requires-clause-small : goal.record_places-requires-clause-small
+record_places-requires-clause-small g c =
+    let types = c.args.resolve.now.types in
+    let sizes = c.sizes-sizes.result.now in
+    let tys = c.args.tys.now in
+    let filled = c.sizes-sizes.ensures types c.requires.knows in
+    small_fits sizes tys (have_places sizes types tys filled c.requires.below) types filled c.requires.small
 
 pub store_type-requires : goal.store_type-requires
 store_type-requires g c =
     let short : c.loop-i.i < length c.args.tys.now = omega (arith, c.loop-i-test.true) in
     let adds = c.loop-i.invariant.adds.grows in
     let reads = c.in_ok-value.ensures.adds.grows in
+    let types = c.args.resolve.now.types in
+    let tys = c.args.tys.now in
+    let i = c.loop-i.i in
+    let filled = c.sizes-sizes.ensures types c.requires.knows in
+    let pair = subst (λ (ps : List ArchitectureSize). IsPairOf (get_or ps i nowhere) (λ w. slice_index (field_offsets w (record_of types tys)) i)) (sym c.as_slice.ensures) (c.in_ok-places.ensures.each types i nowhere filled short) in
     record {
       well = c.requires.well;
       down = c.requires.down;
       below = part_below_within (length c.args.resolve.now.types) c.args.tys.now c.requires.below c.loop-i.i wit.Bool short (length c.args.resolve.now.types) (omega arith);
-      side = reads.imports ∙ adds.imports ∙ c.requires.serves;
-      knows = reads.knows c.args.resolve.now.types (adds.knows c.args.resolve.now.types c.requires.knows);
+      side = reads.imports ∙ adds.imports ∙ c.requires.side;
+      knows = reads.knows types (adds.knows types c.requires.knows);
+      serves = part_served types tys i wit.Bool c.requires.serves short;
+      low = small_part types tys i wit.Bool short (get_or c.as_slice.result.now i nowhere) c.requires.small pair;
     }
 
 pub loop-i-preserved : goal.loop-i-preserved
@@ -51,7 +65,7 @@ loop-i-preserved g c =
     let tys = c.args.tys.now in
     let i = c.loop-i.i in
     let short : i < length tys = omega (arith, c.loop-i-test.true) in
-    let read = subst (λ n. Emits m types (instruction.GetArg n) [] (c.in_ok-value.value ∷ []) c.loop-i.bindgen c.argument.new.bindgen) c.in_ok-number.ensures c.in_ok-value.ensures in
+    let read = c.in_ok-value.ensures in
     let filled = c.sizes-sizes.ensures types c.requires.knows in
     let pair = subst (λ (ps : List ArchitectureSize). IsPairOf (get_or ps i nowhere) (λ w. slice_index (field_offsets w (record_of types tys)) i)) (sym c.as_slice.ensures) (c.in_ok-places.ensures.each types i nowhere filled short) in
     let here = ap (store_code types false (get_or tys i wit.Bool)) (sym (pair_is (get_or c.as_slice.result.now i nowhere) (λ w. slice_index (field_offsets w (record_of types tys)) i) pair)) in

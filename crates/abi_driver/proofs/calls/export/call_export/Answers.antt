@@ -1,4 +1,4 @@
-use Rattle.std.proofs.Common.{◌≡◌, [], ◌∷◌, ◌++◌, List, length, map, sym, ap, ◌∙◌, subst}
+use Rattle.std.proofs.Common.{◌≡◌, ◌<◌, ◌^◌, [], ◌∷◌, ◌++◌, List, length, map, sym, ap, ◌∙◌, subst, arith}
 use Rattle.std.specs.List.{list_all}
 use Rattle.std.proofs.lemmas.List.{length-map}
 use Rattle.std.proofs.lemmas.List.Folds.{list_all-map}
@@ -17,7 +17,10 @@ use Rattle.abi_driver.specs.Exports.{GivesAnswer, TakesArgumentsOver, argument_w
 use Rattle.abi_bindgen.specs.Instructions.{shapes_of}
 use Rattle.abi_bindgen.specs.Laws.{IsCount}
 use Rattle.abi_bindgen.specs.Sent.{sends}
-use Rattle.abi_driver.proofs.CallCode.{given_words}
+use Rattle.abi_bindgen.specs.Served.{ServesAll}
+use Rattle.abi_driver.specs.Low.{IsSmallRecord}
+use Rattle.abi_driver.proofs.WordBytes.{few_parts}
+use Rattle.abi_driver.proofs.CallCode.{few_words, given_words}
 use Rattle.abi_driver.proofs.ExportSteps.{calls_export, export_indirect, export_pointer, export_words}
 use Rattle.abi_bindgen.proofs.Records.{count-shapes}
 use Rattle.abi_bindgen.proofs.SendSteps.{sends_as, sends_both, sends_one, sends_then}
@@ -38,6 +41,29 @@ take_arguments-requires-clause-arguments g c =
     let same : c.as_slice-2.result.now ≡ map (λ (p : Param). p.ty) f.params = c.as_slice-2.ensures ∙ c.in_ok-tys.ensures ∙ ap (map (λ (p : Param). p.ty)) c.as_slice.ensures in
     subst (IsCount m (m.arguments c.args.bindgen.now)) (ap length (export_words types f) ∙ sym (ap (λ (tys : List WitType). length (argument_words (shapes_of types tys))) same)) c.requires.arguments
 
+pub take_arguments-requires-clause-serves : goal.take_arguments-requires-clause-serves
+take_arguments-requires-clause-serves g c =
+    let types = c.args.resolve.now.types in
+    let f = c.args.func.now in
+    let same : c.as_slice-2.result.now ≡ map (λ (p : Param). p.ty) f.params = c.as_slice-2.ensures ∙ c.in_ok-tys.ensures ∙ ap (map (λ (p : Param). p.ty)) c.as_slice.ensures in
+    subst (λ (tys : List WitType). ServesAll (shapes_of types tys)) (sym same) c.requires.serves.params
+
+pub take_arguments-requires-clause-small : goal.take_arguments-requires-clause-small
+take_arguments-requires-clause-small g c =
+    let types = c.args.resolve.now.types in
+    let f = c.args.func.now in
+    let same : c.as_slice-2.result.now ≡ map (λ (p : Param). p.ty) f.params = c.as_slice-2.ensures ∙ c.in_ok-tys.ensures ∙ ap (map (λ (p : Param). p.ty)) c.as_slice.ensures in
+    subst (IsSmallRecord types) (sym same) c.requires.small
+
+pub take_arguments-requires-clause-few : goal.take_arguments-requires-clause-few
+take_arguments-requires-clause-few g c =
+    let types = c.args.resolve.now.types in
+    let n = length types in
+    let f = c.args.func.now in
+    let same : c.as_slice-2.result.now ≡ map (λ (p : Param). p.ty) f.params = c.as_slice-2.ensures ∙ c.in_ok-tys.ensures ∙ ap (map (λ (p : Param). p.ty)) c.as_slice.ensures in
+    let below = list_all-map (λ ty. type_below n ty) (λ (p : Param). p.ty) f.params ∙ params_in_table c.args.resolve.now f c.requires.within in
+    subst (λ (tys : List WitType). length tys < 2 ^ 32) (sym same) (few_parts c.args.resolve.now c.requires.well (map (λ (p : Param). p.ty) f.params) below c.requires.small)
+
 pub take_arguments-requires-clause-indirect : goal.take_arguments-requires-clause-indirect
 take_arguments-requires-clause-indirect g c =
     let types = c.args.resolve.now.types in
@@ -51,6 +77,9 @@ give_answer-requires-clause-down g c = types_go_down c.args.resolve.now c.requir
 pub give_answer-requires-clause-below : goal.give_answer-requires-clause-below
 give_answer-requires-clause-below g c = result_in_table c.args.resolve.now c.args.func.now c.requires.within
 
+pub give_answer-requires-clause-serves : goal.give_answer-requires-clause-serves
+give_answer-requires-clause-serves g c = c.requires.serves.result
+
 pub give_answer-requires-clause-retptr : goal.give_answer-requires-clause-retptr
 give_answer-requires-clause-retptr g c = export_pointer c.args.resolve.now.types c.args.func.now c.wasm_signature-signature.result c.wasm_signature-signature.ensures
 
@@ -61,8 +90,14 @@ send-requires g c =
     let same : c.as_slice-2.result.now ≡ map (λ (p : Param). p.ty) f.params = c.as_slice-2.ensures ∙ c.in_ok-tys.ensures ∙ ap (map (λ (p : Param). p.ty)) c.as_slice.ensures in
     record {
       operands = c.in_ok-values.ensures.takes.many ∙ count-shapes types c.as_slice-2.result.now ∙ ap length same ∙ length-map f.params (λ (p : Param). p.ty);
-      suits = c.in_ok-values.ensures.takes.adds.grows.exports ∙ c.requires.serves;
+      suits = c.in_ok-values.ensures.takes.adds.grows.exports ∙ c.requires.side;
     }
+
+pub overflow_cast-given_count : goal.overflow_cast-given_count
+overflow_cast-given_count g c =
+    let r = result_shape c.args.resolve.now.types c.args.func.now in
+    let count = given_words g.B.Bindgen.meaning c.args.resolve.now.types r c.as_slice-3.result.now c.in_ok-given.given _ _ c.in_ok-given.ensures.gives in
+    omega (arith, c.len-given_count.ensures, count, few_words r)
 
 pub returns : goal.returns
 returns g c =
@@ -74,18 +109,18 @@ returns g c =
     let same : c.as_slice-2.result.now ≡ map (λ (p : Param). p.ty) f.params = c.as_slice-2.ensures ∙ c.in_ok-tys.ensures ∙ ap (map (λ (p : Param). p.ty)) c.as_slice.ensures in
     let takes = subst (λ (tys : List WitType). TakesArgumentsOver m (shapes_of types tys) values c.args.bindgen.now c.take_arguments.new.bindgen) same c.in_ok-values.ensures.takes in
     let lowers = subst (λ (os : List _). GivesAnswer m (result_shape types f) os given c.send.new.bindgen c.give_answer.new.bindgen) c.as_slice-3.ensures c.in_ok-given.ensures.gives in
-    let count : c.in_ok-given_count.given_count ≡ length (core_results GuestExport (result_words (result_shape types f))) = c.in_ok-given_count.ensures ∙ c.len.ensures ∙ given_words m types (result_shape types f) _ given _ _ lowers in
+    let count : c.len-given_count.result ≡ length (core_results GuestExport (result_words (result_shape types f))) = c.len-given_count.ensures ∙ given_words m types (result_shape types f) _ given _ _ lowers in
     let end = sends (Return (length (core_results GuestExport (result_words (result_shape types f))))) ∷ [] in
     let one = c.take_arguments.new.bindgen in
     let two = c.send.new.bindgen in
     let three = c.give_answer.new.bindgen in
     let four = c.send-2.new.bindgen in
     let taken = sends_as m types (take_code types c.as_slice-2.result.now) (take_code types (map (λ (p : Param). p.ty) f.params)) c.args.bindgen.now one (ap (take_code types) (sym same)) c.in_ok-values.ensures.sends in
-    let last = sends_as m types (sends (Return c.in_ok-given_count.given_count) ∷ []) end three four (ap (λ n. sends (Return n) ∷ []) (sym count)) (sends_one m types (Return c.in_ok-given_count.given_count) given _ three four c.in_ok-send.ensures) in
+    let last = sends_as m types (sends (Return c.len-given_count.result) ∷ []) end three four (ap (λ n. sends (Return n) ∷ []) (sym count)) (sends_one m types (Return c.len-given_count.result) given _ three four c.in_ok-send.ensures) in
     let args = take_code types (map (λ (p : Param). p.ty) f.params) in
     let called = sends_then m types (CallInterface c.args.func) values c.in_ok-answer.answer (give_code types f.result) one two three c.in_ok-answer.ensures c.in_ok-given.ensures.sends in
     let gave = sends_both m types args (sends (CallInterface c.args.func) ∷ give_code types f.result) c.args.bindgen.now one three taken called in
     record {
-      calls = calls_export m g.met.B.Bindgen.sound types c.args.func _ _ _ _ _ values c.in_ok-answer.answer given _ c.in_ok-given_count.given_count takes c.in_ok-answer.ensures c.requires.serves lowers c.in_ok-send.ensures;
+      calls = calls_export m g.met.B.Bindgen.sound types c.args.func _ _ _ _ _ values c.in_ok-answer.answer given _ c.len-given_count.result takes c.in_ok-answer.ensures c.requires.side lowers c.in_ok-send.ensures;
       sends = sends_both m types (args ++ (sends (CallInterface c.args.func) ∷ give_code types f.result)) end c.args.bindgen.now three four gave last;
     }

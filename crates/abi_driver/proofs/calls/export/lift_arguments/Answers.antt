@@ -9,15 +9,16 @@ use Rattle.wrapper_meaning.specs.Represents.{param_words}
 use Rattle.wrapper_meaning.proofs.LayoutIsTree.{layout_is_tree}
 use Rattle.abi_bindgen.specs.Code.{lift_arguments}
 use Rattle.abi_bindgen.specs.Instructions.{shapes_of}
-use Rattle.abi_driver.specs.WordCount.{word_count}
+use Rattle.abi_bindgen.specs.WordCount.{word_count}
 use Rattle.abi_driver.proofs.ArgumentSteps.{within_words}
 use Rattle.abi_driver.proofs.CallCode as Sent
 use Rattle.abi_driver.proofs.LiftedArguments.{rest_first, rest_last, rest_next, told_within, words_left, words_next}
-use Rattle.abi_driver.proofs.WordCounts.{no_more}
+use Rattle.abi_bindgen.proofs.WordCounts.{no_more}
 use Rattle.abi_bindgen.proofs.Payloads.{payload_count}
 use Rattle.abi_bindgen.proofs.Records.{part_below_within}
 use Rattle.abi_bindgen.proofs.Runs.{adds_both, adds_same}
 use Rattle.abi_bindgen.proofs.SendSteps.{sends_as}
+use Rattle.abi_bindgen.proofs.Serving.{part_served}
 use Rattle.abi_driver.proofs.calls.export.lift_arguments.Goals as goal
 
 pub loop-i-init : goal.loop-i-init
@@ -76,6 +77,7 @@ lift_flat-requires g c =
       well = c.requires.well;
       down = types_go_down c.args.resolve.now c.requires.well.unbroken;
       below = part_below_within n c.args.tys.now c.requires.below c.loop-i.i wit.Bool short n (omega arith);
+      serves = part_served types tys c.loop-i.i wit.Bool c.requires.serves short;
       few = omega (arith, read, exact, few);
       exact = read ∙ exact;
     }

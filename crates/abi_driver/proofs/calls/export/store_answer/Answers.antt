@@ -1,7 +1,10 @@
-use Rattle.std.proofs.Common.{true, refl, ◌∙◌}
+use Rattle.std.proofs.Common.{true, refl, ◌∙◌, subst}
 use Rattle.wrapper_meaning.specs.Shape.{shape_of}
 use Rattle.abi_bindgen.specs.Code.{ask_for, store_code}
 use Rattle.abi_bindgen.specs.Frees.{nowhere}
+use Rattle.wit_model.specs.declared.size.ArchitectureSize.{ArchitectureSize}
+use Rattle.abi_bindgen.specs.Sends.{Sends}
+use Rattle.abi_driver.specs.Stores.{LowersToMemory}
 use Rattle.abi_driver.proofs.LeafStores.{one_of}
 use Rattle.abi_bindgen.proofs.SendSteps.{sends_both}
 use Rattle.abi_driver.proofs.calls.export.store_answer.Goals as goal
@@ -9,14 +12,28 @@ use Rattle.abi_driver.proofs.calls.export.store_answer.Goals as goal
 pub store_type-requires : goal.store_type-requires
 store_type-requires g c =
     let grows = c.in_ok-address.ensures.points.2.grows in
-    record { well = c.requires.well; down = c.requires.down; below = c.requires.below; side = grows.exports ∙ c.requires.serves; knows = grows.knows c.args.resolve.now.types c.requires.knows }
+    let types = c.args.resolve.now.types in
+    let knows = grows.knows types c.requires.knows in
+    record {
+      well = c.requires.well;
+      down = c.requires.down;
+      below = c.requires.below;
+      side = grows.exports ∙ c.requires.side;
+      knows = knows;
+      serves = c.requires.serves;
+      low = c.start-start.ensures.low types c.args.ty knows c.requires.below;
+    }
 
 pub returns : goal.returns
 returns g c =
     let types = c.args.resolve.now.types in
     let value = c.in_ok-value.value in
     let asked = c.in_ok-address.ensures in
+    let m = g.B.Bindgen.meaning in
+    let at = c.start-start.ensures.here in
     let stored = c.in_ok-store_type.ensures in
+    let stores = subst (λ (s : ArchitectureSize). LowersToMemory m true (shape_of types c.args.ty) value c.in_ok-address.address s c.point_at.new.bindgen c.store_type.new.bindgen) at stored.stores in
+    let sent = subst (λ (s : ArchitectureSize). Sends m types (store_code types true c.args.ty s) c.point_at.new.bindgen c.store_type.new.bindgen) at stored.sends in
     record {
       stores = record {
         value = value;
@@ -25,7 +42,7 @@ returns g c =
         answered = one_of c.args.answer.now c.args.answer.now c.index-answer-0.result value c.requires.due refl c.index-answer-0.is c.in_ok-value.ensures;
         gives = c.in_ok-given.ensures;
         points = asked.points;
-        stores = stored.stores;
+        stores = stores;
       };
-      sends = sends_both g.B.Bindgen.meaning types (ask_for (shape_of types c.args.ty)) (store_code types true c.args.ty nowhere) c.args.bindgen.now c.point_at.new.bindgen c.store_type.new.bindgen asked.sends stored.sends;
+      sends = sends_both m types (ask_for (shape_of types c.args.ty)) (store_code types true c.args.ty nowhere) c.args.bindgen.now c.point_at.new.bindgen c.store_type.new.bindgen asked.sends sent;
     }

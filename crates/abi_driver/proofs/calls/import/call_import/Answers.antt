@@ -1,4 +1,4 @@
-use Rattle.std.proofs.Common.{◌≡◌, ◌++◌, [], ◌∷◌, List, if◌then◌else◌, length, map, sym, ap, ap₂, ◌∙◌, subst}
+use Rattle.std.proofs.Common.{◌≡◌, ◌<◌, ◌^◌, ◌++◌, [], ◌∷◌, List, if◌then◌else◌, length, map, sym, ap, ap₂, ◌∙◌, subst, arith}
 use Rattle.std.specs.List.{list_all}
 use Rattle.std.specs.Prelude.{option_to_list}
 use Rattle.std.proofs.lemmas.List.{length-map}
@@ -16,8 +16,11 @@ use Rattle.abi_driver.specs.Imports.{PassesArguments, ReadsAnswer}
 use Rattle.abi_bindgen.specs.Instructions.{Emits, shapes_of}
 use Rattle.abi_bindgen.specs.Laws.{IsCount}
 use Rattle.abi_bindgen.specs.Sent.{sends}
+use Rattle.abi_bindgen.specs.Served.{ServesAll}
+use Rattle.abi_driver.specs.Low.{IsSmallRecord}
+use Rattle.abi_driver.proofs.WordBytes.{few_parts}
 use Rattle.abi_driver.proofs.AreaSteps.{points_grows}
-use Rattle.abi_driver.proofs.CallCode.{given_count}
+use Rattle.abi_driver.proofs.CallCode.{few_given, given_count}
 use Rattle.abi_driver.proofs.ExportSteps.{count_mapped}
 use Rattle.abi_driver.proofs.ImportSteps.{calls_import, import_words, indirect_told, one_pointer, pointer_told, words_count}
 use Rattle.abi_bindgen.proofs.SendSteps.{sends_as, sends_both, sends_one, sends_then}
@@ -40,12 +43,38 @@ pass_arguments-requires-clause-arguments g c =
     let same : c.as_slice-2.result.now ≡ map (λ (p : Param). p.ty) f.params = c.as_slice-2.ensures ∙ c.in_ok-tys.ensures ∙ ap (map (λ (p : Param). p.ty)) c.as_slice.ensures in
     subst (IsCount m (m.arguments c.args.bindgen.now)) (sym (ap length same ∙ length-map f.params (λ (p : Param). p.ty))) c.requires.arguments
 
+pub pass_arguments-requires-clause-serves : goal.pass_arguments-requires-clause-serves
+pass_arguments-requires-clause-serves g c =
+    let types = c.args.resolve.now.types in
+    let f = c.args.func.now in
+    let same : c.as_slice-2.result.now ≡ map (λ (p : Param). p.ty) f.params = c.as_slice-2.ensures ∙ c.in_ok-tys.ensures ∙ ap (map (λ (p : Param). p.ty)) c.as_slice.ensures in
+    subst (λ (tys : List WitType). ServesAll (shapes_of types tys)) (sym same) c.requires.serves.params
+
+pub pass_arguments-requires-clause-small : goal.pass_arguments-requires-clause-small
+pass_arguments-requires-clause-small g c =
+    let types = c.args.resolve.now.types in
+    let f = c.args.func.now in
+    let same : c.as_slice-2.result.now ≡ map (λ (p : Param). p.ty) f.params = c.as_slice-2.ensures ∙ c.in_ok-tys.ensures ∙ ap (map (λ (p : Param). p.ty)) c.as_slice.ensures in
+    subst (IsSmallRecord types) (sym same) c.requires.small
+
+pub pass_arguments-requires-clause-few : goal.pass_arguments-requires-clause-few
+pass_arguments-requires-clause-few g c =
+    let types = c.args.resolve.now.types in
+    let n = length types in
+    let f = c.args.func.now in
+    let same : c.as_slice-2.result.now ≡ map (λ (p : Param). p.ty) f.params = c.as_slice-2.ensures ∙ c.in_ok-tys.ensures ∙ ap (map (λ (p : Param). p.ty)) c.as_slice.ensures in
+    let below = list_all-map (λ ty. type_below n ty) (λ (p : Param). p.ty) f.params ∙ params_in_table c.args.resolve.now f c.requires.within in
+    subst (λ (tys : List WitType). length tys < 2 ^ 32) (sym same) (few_parts c.args.resolve.now c.requires.well (map (λ (p : Param). p.ty) f.params) below c.requires.small)
+
 pub pass_arguments-requires-clause-indirect : goal.pass_arguments-requires-clause-indirect
 pass_arguments-requires-clause-indirect g c =
     let types = c.args.resolve.now.types in
     let f = c.args.func.now in
     let same : c.as_slice-2.result.now ≡ map (λ (p : Param). p.ty) f.params = c.as_slice-2.ensures ∙ c.in_ok-tys.ensures ∙ ap (map (λ (p : Param). p.ty)) c.as_slice.ensures in
     indirect_told types f c.wasm_signature-signature.result c.wasm_signature-signature.ensures ∙ sym (ap (λ (tys : List WitType). are_indirect (shapes_of types tys)) same)
+
+pub point_at_result-requires-clause-below : goal.point_at_result-requires-clause-below
+point_at_result-requires-clause-below g c = result_in_table c.args.resolve.now c.args.func.now c.requires.within
 
 pub point_at_result-requires-clause-retptr : goal.point_at_result-requires-clause-retptr
 point_at_result-requires-clause-retptr g c = pointer_told c.args.resolve.now.types c.args.func.now c.wasm_signature-signature.result c.wasm_signature-signature.ensures
@@ -58,6 +87,9 @@ read_answer-requires-clause-below g c = result_in_table c.args.resolve.now c.arg
 
 pub point_at_result-requires-clause-knows : goal.point_at_result-requires-clause-knows
 point_at_result-requires-clause-knows g c = c.in_ok-words.ensures.passes.grows.knows c.args.resolve.now.types c.requires.knows
+
+pub read_answer-requires-clause-serves : goal.read_answer-requires-clause-serves
+read_answer-requires-clause-serves g c = c.requires.serves.result
 
 pub read_answer-requires-clause-knows : goal.read_answer-requires-clause-knows
 read_answer-requires-clause-knows g c =
@@ -96,11 +128,17 @@ send-requires g c =
     let all : c.in_ok-all.all ≡ words ++ pointer = c.in_ok-all.ensures ∙ ap₂ (λ xs ys. xs ++ ys) c.as_slice-3.ensures c.as_slice-4.ensures in
     record {
       operands = ap length all ∙ words_count m types f words pointer _ _ _ _ passes c.in_ok-pointer.ensures.points;
-      suits = ((points_grows m g.met.B.Bindgen.sound (result_shape types f) pointer _ _ c.in_ok-pointer.ensures.points).0.imports ∙ passes.grows.imports ∙ c.requires.serves, c.requires.well, c.requires.within);
+      suits = ((points_grows m g.met.B.Bindgen.sound (result_shape types f) pointer _ _ c.in_ok-pointer.ensures.points).0.imports ∙ passes.grows.imports ∙ c.requires.side, c.requires.well, c.requires.within);
     }
 
 pub send-requires-2 : goal.send-requires-2
-send-requires-2 g c = record { operands = sym (c.in_ok-count.ensures ∙ c.len.ensures); suits = tt }
+send-requires-2 g c = record { operands = sym c.len-count.ensures; suits = tt }
+
+pub overflow_cast-count : goal.overflow_cast-count
+overflow_cast-count g c =
+    let r = result_shape c.args.resolve.now.types c.args.func.now in
+    let count = given_count g.B.Bindgen.meaning c.args.resolve.now.types r c.as_slice-5.result.now c.in_ok-answer.answer c.in_ok-given.given _ _ c.in_ok-given.ensures.reads in
+    omega (arith, c.len-count.ensures, count, few_given r)
 
 pub returns : goal.returns
 returns g c =
@@ -116,7 +154,7 @@ returns g c =
     let all : c.in_ok-all.all ≡ words ++ pointer = c.in_ok-all.ensures ∙ ap₂ (λ xs ys. xs ++ ys) c.as_slice-3.ensures c.as_slice-4.ensures in
     let called = subst (λ (os : List _). Emits m types (CallWasm c.args.func) os back c.point_at_result.new.bindgen c.send.new.bindgen) all c.in_ok-answer.ensures in
     let reads = subst (λ (os : List _). ReadsAnswer m (result_shape types f) os back given c.send.new.bindgen c.read_answer.new.bindgen) c.as_slice-5.ensures c.in_ok-given.ensures.reads in
-    let count : c.in_ok-count.count ≡ length (option_to_list f.result) = c.in_ok-count.ensures ∙ c.len.ensures ∙ given_count m types (result_shape types f) pointer back given _ _ reads ∙ count_mapped (shape_of types) f.result in
+    let count : c.len-count.result ≡ length (option_to_list f.result) = c.len-count.ensures ∙ given_count m types (result_shape types f) pointer back given _ _ reads ∙ count_mapped (shape_of types) f.result in
     let end = sends (Return (length (option_to_list f.result))) ∷ [] in
     let one = c.pass_arguments.new.bindgen in
     let two = c.point_at_result.new.bindgen in
@@ -124,12 +162,12 @@ returns g c =
     let four = c.read_answer.new.bindgen in
     let five = c.send-2.new.bindgen in
     let passed = sends_as m types (pass_code types c.as_slice-2.result.now) (pass_code types (map (λ (p : Param). p.ty) f.params)) c.args.bindgen.now one (ap (pass_code types) (sym same)) c.in_ok-words.ensures.sends in
-    let last = sends_as m types (sends (Return c.in_ok-count.count) ∷ []) end four five (ap (λ n. sends (Return n) ∷ []) (sym count)) (sends_one m types (Return c.in_ok-count.count) given _ four five c.in_ok-send.ensures) in
+    let last = sends_as m types (sends (Return c.len-count.result) ∷ []) end four five (ap (λ n. sends (Return n) ∷ []) (sym count)) (sends_one m types (Return c.len-count.result) given _ four five c.in_ok-send.ensures) in
     let args = pass_code types (map (λ (p : Param). p.ty) f.params) in
     let called_so = sends_then m types (CallWasm c.args.func) (words ++ pointer) back (read_code types f.result) two three four called c.in_ok-given.ensures.sends in
     let asked = sends_both m types args (point_code types f.result) c.args.bindgen.now one two passed c.in_ok-pointer.ensures.sends in
     let read = sends_both m types (args ++ point_code types f.result) (sends (CallWasm c.args.func) ∷ read_code types f.result) c.args.bindgen.now two four asked called_so in
     record {
-      calls = calls_import m g.met.B.Bindgen.sound types c.args.func _ _ _ _ _ _ words pointer back given _ c.in_ok-count.count passes c.in_ok-pointer.ensures.points called reads c.in_ok-send.ensures;
+      calls = calls_import m g.met.B.Bindgen.sound types c.args.func _ _ _ _ _ _ words pointer back given _ c.len-count.result passes c.in_ok-pointer.ensures.points called reads c.in_ok-send.ensures;
       sends = sends_both m types (args ++ point_code types f.result ++ (sends (CallWasm c.args.func) ∷ read_code types f.result)) end c.args.bindgen.now four five read last;
     }

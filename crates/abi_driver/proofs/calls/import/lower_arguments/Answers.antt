@@ -1,10 +1,13 @@
-use Rattle.std.proofs.Common.{◌<◌, ◌≤◌, [], ◌∷◌, ◌++◌, length, get_or, false, refl, sym, subst, ap, ◌∙◌, arith}
-use Rattle.std.specs.Prelude.{IfSome}
+use Rattle.std.proofs.Common.{◌<◌, ◌≤◌, ◌∷◌, ◌++◌, length, get_or, false, refl, ap, ◌∙◌, arith}
+use Rattle.std.proofs.lemmas.Bool.{ltb-false}
 use Rattle.std.proofs.lemmas.List.{drop_more}
 use Rattle.wit_model.specs.declared.types.WitType.TheVariants as wit
 use Rattle.abi_bindgen.specs.declared.instruction.Instruction.TheVariants as instruction
 use Rattle.abi_bindgen.specs.Code.{lower_code}
-use Rattle.abi_bindgen.specs.Instructions.{Emits}
+use Rattle.abi_bindgen.specs.Instructions.{shapes_of}
+use Rattle.wrapper_meaning.specs.Represents.{param_words}
+use Rattle.abi_bindgen.proofs.Serving.{part_served}
+use Rattle.abi_bindgen.proofs.WordCounts.{part_few}
 use Rattle.abi_bindgen.specs.Sent.{sends}
 use Rattle.abi_driver.proofs.ArgumentSteps.{rest_last, rest_next, within_count}
 use Rattle.abi_bindgen.proofs.Records.{part_below_within}
@@ -19,19 +22,23 @@ pub argument-requires : goal.argument-requires
 argument-requires g c =
     let m = g.B.Bindgen.meaning in
     let short : c.loop-i.i < length c.args.tys.now = omega (arith, c.loop-i-test.true) in
-    let here = within_count (m.arguments c.args.bindgen.now) (m.arguments c.loop-i.bindgen) (length c.args.tys.now) c.loop-i.i c.loop-i.invariant.adds.grows.arguments c.requires.arguments short in
-    subst (λ n. IfSome (m.arguments c.loop-i.bindgen) (λ k. n < k)) (sym c.in_ok-number.ensures) here
+    within_count (m.arguments c.args.bindgen.now) (m.arguments c.loop-i.bindgen) (length c.args.tys.now) c.loop-i.i c.loop-i.invariant.adds.grows.arguments c.requires.arguments short
 
 pub lower_flat-requires : goal.lower_flat-requires
 lower_flat-requires g c =
     let short : c.loop-i.i < length c.args.tys.now = omega (arith, c.loop-i-test.true) in
     let adds = c.loop-i.invariant.adds.grows in
     let reads = c.in_ok-value.ensures.adds.grows in
+    let types = c.args.resolve.now.types in
+    let tys = c.args.tys.now in
+    let most = ltb-false 16 (length (param_words (shapes_of types tys))) c.requires.direct in
     record {
       well = c.requires.well;
       down = c.requires.down;
       below = part_below_within (length c.args.resolve.now.types) c.args.tys.now c.requires.below c.loop-i.i wit.Bool short (length c.args.resolve.now.types) (omega arith);
-      side = reads.imports ∙ adds.imports ∙ c.requires.serves;
+      side = reads.imports ∙ adds.imports ∙ c.requires.side;
+      serves = part_served types tys c.loop-i.i wit.Bool c.requires.serves short;
+      few = omega (arith, part_few types tys c.loop-i.i wit.Bool short, most);
     }
 
 pub loop-i-preserved : goal.loop-i-preserved
@@ -39,7 +46,7 @@ loop-i-preserved g c =
     let m = g.B.Bindgen.meaning in
     let types = c.args.resolve.now.types in
     let short : c.loop-i.i < length c.args.tys.now = omega (arith, c.loop-i-test.true) in
-    let read = subst (λ n. Emits m types (instruction.GetArg n) [] (c.in_ok-value.value ∷ []) c.loop-i.bindgen c.argument.new.bindgen) c.in_ok-number.ensures c.in_ok-value.ensures in
+    let read = c.in_ok-value.ensures in
     record {
       adds = adds_both m _ _ _ c.loop-i.invariant.adds (adds_both m _ _ _ c.in_ok-value.ensures.adds c.in_ok-words.ensures.lowers.adds);
       sent = sends_next m types (λ n ty. sends (instruction.GetArg n) ∷ lower_code types false ty) c.args.tys.now c.loop-i.i wit.Bool _ _ _ short c.loop-i.invariant.sent (sends_then m types (instruction.GetArg c.loop-i.i) _ _ _ _ _ _ read c.in_ok-words.ensures.sends);

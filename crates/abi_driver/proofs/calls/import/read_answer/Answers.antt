@@ -1,9 +1,9 @@
-use Rattle.std.proofs.Common.{◌≡◌, ◌≤◌, false, length, Option, Some, option_map, sym, ap, ◌∙◌, subst, arith}
+use Rattle.std.proofs.Common.{length, Option, option_map, sym, ap, ◌∙◌, subst, arith}
 use Rattle.std.proofs.lemmas.Bool.{ltb-false}
 use Rattle.wit_model.specs.declared.types.WitType.{WitType}
-use Rattle.wrapper_meaning.specs.Represents.{is_indirect, result_words}
+use Rattle.wrapper_meaning.specs.Represents.{result_words}
 use Rattle.wrapper_meaning.specs.Shape.{shape_of}
-use Rattle.abi_driver.specs.WordCount.{word_count}
+use Rattle.abi_bindgen.specs.Served.{ServesResult}
 use Rattle.abi_driver.proofs.calls.import.read_answer.Goals as goal
 
 -- a result that is passed directly is a word at most
@@ -19,3 +19,13 @@ lift_answer-requires-clause-few g c =
     let r = option_map (shape_of types) c.args.ty in
     let one = ltb-false 1 (length (result_words r)) (sym c.requires.retptr ∙ c.if-retptr.false) in
     omega (arith, one, c.requires.answered c.if-retptr.false)
+
+pub lift_answer-requires-clause-serves : goal.lift_answer-requires-clause-serves
+lift_answer-requires-clause-serves g c =
+    let types = c.args.resolve.now.types in
+    subst (λ (p : Option WitType). ServesResult (option_map (shape_of types) p)) c.in-Some-2.is c.requires.serves
+
+pub load_answer-requires-clause-serves : goal.load_answer-requires-clause-serves
+load_answer-requires-clause-serves g c =
+    let types = c.args.resolve.now.types in
+    subst (λ (p : Option WitType). ServesResult (option_map (shape_of types) p)) c.in-Some.is c.requires.serves

@@ -1,5 +1,5 @@
-use Rattle.std.proofs.Common.{◌≡◌, ◌^◌, true, nat_lt, List, [], ◌∷◌, sym, ap₂, subst}
-use Rattle.std.proofs.lemmas.Bool.{ltb-true}
+use Rattle.std.proofs.Common.{◌≡◌, ◌<◌, ◌^◌, List, [], ◌∷◌, sym, ap₂, subst}
+use mathlib.Core.Logic.{inr}
 use Rattle.wit_layout.specs.Sizes.{elem_size}
 use Rattle.wit_layout.specs.Told.{IsPairOf}
 use Rattle.wit_layout.specs.Tree.{record_of}
@@ -9,9 +9,18 @@ use Rattle.abi_bindgen.specs.Code.{free_block_code}
 use Rattle.abi_bindgen.specs.Instructions.{Emits, shapes_of}
 use Rattle.abi_bindgen.specs.Sent.{sends}
 use Rattle.abi_driver.proofs.AreaAsked.{record_told}
-use Rattle.abi_driver.proofs.RecordPlaces.{record_layout}
+use Rattle.abi_driver.proofs.LowPlaces.{small_fits}
+use Rattle.abi_driver.proofs.RecordPlaces.{have_places, record_layout}
 use Rattle.abi_bindgen.proofs.SendSteps.{sends_as, sends_one, sends_then}
 use Rattle.abi_driver.proofs.calls.record.free_arguments.Goals as goal
+
+pub record_of-align-requires-clause-room : goal.record_of-align-requires-clause-room
+record_of-align-requires-clause-room g c =
+    let types = c.args.resolve.now.types in
+    let sizes = c.sizes-sizes.result.now in
+    let tys = c.args.tys.now in
+    let filled = c.sizes-sizes.ensures types c.requires.knows in
+    inr (small_fits sizes tys (have_places sizes types tys filled c.requires.below) types filled c.requires.small)
 
 pub returns : goal.returns
 returns g c =
@@ -30,7 +39,7 @@ returns g c =
         size = size;
         align = align;
         sized = subst (λ l. IsPairOf size (λ w. elem_size w l)) same (c.record_of-align.ensures.size types filled);
-        bounded = ltb-true _ _ (subst (λ l. nat_lt (elem_size 3 l) (2 ^ 31) ≡ true) same (sym (c.if-not-fits_in_record.ensures.record types filled)));
+        bounded = subst (λ l. elem_size 3 l < 2 ^ 31) same c.requires.small;
         address = c.in_ok-address.address;
         none = c.in_ok-_none._none;
         middle = c.argument.new.bindgen;

@@ -1,4 +1,4 @@
-use Rattle.std.proofs.Common.{◌≡◌, [], ◌∷◌, ◌++◌, length, sym, ap, ◌∙◌}
+use Rattle.std.proofs.Common.{◌≡◌, [], ◌∷◌, ◌++◌, length, sym, ap, ◌∙◌, arith}
 use Rattle.wrapper_meaning.specs.Shape.Shape.{fields}
 use Rattle.abi_bindgen.specs.declared.instruction.Instruction.TheVariants.{Flush, GetArg}
 use Rattle.abi_bindgen.specs.Code.{free_block_code, load_arguments}
@@ -8,16 +8,19 @@ use Rattle.abi_bindgen.proofs.Records.{count-shapes}
 use Rattle.abi_bindgen.proofs.SendSteps.{sends_as, sends_both, sends_then}
 use Rattle.abi_driver.proofs.calls.record.load_arguments.Goals as goal
 
+pub overflow_cast-count : goal.overflow_cast-count
+overflow_cast-count g c = omega (arith, c.len-count.ensures, c.in_ok-parts.ensures.count, c.requires.few)
+
 pub returns : goal.returns
 returns g c =
     let m = g.B.Bindgen.meaning in
     let types = c.args.resolve.now.types in
     let tys = c.args.tys.now in
-    let many : c.in_ok-count.count ≡ length tys = c.in_ok-count.ensures ∙ c.len.ensures ∙ c.in_ok-parts.ensures.count in
+    let many : c.len-count.result ≡ length tys = c.len-count.ensures ∙ c.in_ok-parts.ensures.count in
     let freed = free_block_code (fields (shapes_of types tys)) in
     let later =
-    sends_as m types (sends (Flush c.in_ok-count.count) ∷ freed) (sends (Flush (length tys)) ∷ freed) c.load_at.new.bindgen c.free_arguments.new.bindgen (ap (λ n. sends (Flush n) ∷ freed) (sym many))
-    (sends_then m types (Flush c.in_ok-count.count) c.in_ok-parts.parts c.in_ok-values.values freed c.load_at.new.bindgen c.send.new.bindgen c.free_arguments.new.bindgen c.in_ok-values.ensures c.in_ok-free_arguments.ensures.sends)
+    sends_as m types (sends (Flush c.len-count.result) ∷ freed) (sends (Flush (length tys)) ∷ freed) c.load_at.new.bindgen c.free_arguments.new.bindgen (ap (λ n. sends (Flush n) ∷ freed) (sym many))
+    (sends_then m types (Flush c.len-count.result) c.in_ok-parts.parts c.in_ok-values.values freed c.load_at.new.bindgen c.send.new.bindgen c.free_arguments.new.bindgen c.in_ok-values.ensures c.in_ok-free_arguments.ensures.sends)
     in
     record {
       takes = record {
@@ -25,7 +28,7 @@ returns g c =
         parts = c.in_ok-parts.parts;
         counted = c.in_ok-parts.ensures.count ∙ sym (count-shapes types tys);
         many = c.in_ok-values.ensures.results ∙ many ∙ sym (count-shapes types tys);
-        number = c.in_ok-count.count;
+        number = c.len-count.result;
         one = c.argument.new.bindgen;
         two = c.load_at.new.bindgen;
         three = c.send.new.bindgen;

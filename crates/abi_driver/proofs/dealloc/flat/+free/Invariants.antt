@@ -1,8 +1,10 @@
-use Rattle.std.proofs.Common.{◌+◌, ◌*◌, take}
+use Rattle.std.proofs.Common.{◌≡◌, ◌+◌, ◌*◌, ◌≤◌, take}
 use Rattle.wit_layout.proofs.FlattenSteps.{rank}
 use Rattle.abi_bindgen.specs.Code.{each, free_words_code}
 use Rattle.abi_bindgen.specs.Sends.{Sends}
+use Rattle.abi_bindgen.specs.WordCount.{word_counts}
 use Rattle.abi_driver.proofs.FlatFrees.{Rest}
+use Rattle.abi_driver.proofs.LiftedArguments.{words_left}
 use Rattle.abi_driver.proofs.dealloc.flat.+free.Given as goal
 
 abbrev pub decreases-free_type : goal.decreases-free_type
@@ -20,6 +22,8 @@ invariant-free_parts-loop-i g l =
     let m = g.B.Bindgen.meaning in
     let types = l.resolve.types in
     record {
+      left : l.next + words_left types l.tys l.i ≡ l.at + word_counts types l.tys;
+      low : l.at ≤ l.next;
       sent : Sends m types (each (λ n ty. free_words_code types ty) 0 (take l.i l.tys)) l.initial.bindgen l.bindgen;
       rest : Rest m g.met.B.Bindgen.sound types l.tys l.i l.at l.words l.next l.initial.bindgen l.bindgen;
     }

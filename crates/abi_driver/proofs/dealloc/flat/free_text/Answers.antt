@@ -13,12 +13,13 @@ returns g c =
     let types = c.args.resolve.now.types in
     let operands = c.in_ok-push.ensures.ok ∙ ap (λ (os : List g.row.B-Operand.Denot). os ++ c.in_ok-length.length ∷ []) c.in_ok-operands.ensures in
     let e = subst (λ (os : List g.row.B-Operand.Denot). Emits m types GuestDeallocateString os c.in_ok-_none._none c.args.bindgen.now c.send.new.bindgen) operands c.in_ok-_none.ensures in
-    let short : c.args.at < length c.args.words.now = omega (arith, c.if-at-words.false, c.if-words-lt2.false) in
-    let shorter : c.args.at + 1 < length c.args.words.now = omega (arith, c.if-at-words.false, c.if-words-lt2.false) in
+    let short : c.args.at < length c.args.words.now = omega (arith, c.requires) in
+    let shorter : c.args.at + 1 < length c.args.words.now = omega (arith, c.requires) in
     let first = drop-same c.args.words.now c.args.words.now c.args.at c.in_ok-address.address c.index-words-at.result refl short c.index-words-at.is c.in_ok-address.ensures in
     let second = drop-same c.args.words.now c.args.words.now (c.args.at + 1) c.in_ok-length.length c.index-words-at-2.result refl shorter c.index-words-at-2.is c.in_ok-length.ensures in
     let two : c.args.at + 1 + 1 ≡ c.args.at + 2 = omega arith in
     record {
+      next = refl;
       frees = (
         c.in_ok-address.address ∷ c.in_ok-length.length ∷ [],
         first ∙ ap (λ os. c.in_ok-address.address ∷ os) (second ∙ ap (λ k. c.in_ok-length.length ∷ drop k c.args.words.now) two),

@@ -7,9 +7,11 @@ use Rattle.wit_layout.specs.Told.{IsPairOf}
 use Rattle.wit_layout.specs.Tree.{record_of}
 use Rattle.abi_bindgen.specs.Code.{free_code, place_in}
 use Rattle.abi_bindgen.specs.Frees.{nowhere}
+use Rattle.abi_bindgen.proofs.Serving.{part_served}
+use Rattle.abi_driver.proofs.LowPlaces.{small_fits, small_part}
 use Rattle.abi_driver.proofs.FreeSteps.{rest_last, rest_next}
 use Rattle.abi_driver.proofs.PartOffsets.{behind_next, pair_is}
-use Rattle.abi_driver.proofs.RecordPlaces.{record_place}
+use Rattle.abi_driver.proofs.RecordPlaces.{have_places, record_place}
 use Rattle.abi_bindgen.proofs.Records.{part_below_within}
 use Rattle.abi_bindgen.proofs.Runs.{adds_both, adds_same}
 use Rattle.abi_bindgen.proofs.SendSteps.{sends_as, sends_last, sends_next}
@@ -21,12 +23,25 @@ loop-i-init g c = record { adds = adds_same g.B.Bindgen.meaning c.args.bindgen.n
 pub free_type-requires : goal.free_type-requires
 free_type-requires g c =
     let types = c.args.resolve.now.types in
-    let short : c.loop-i.i < length c.args.types.now = omega (arith, c.loop-i-test.true) in
+    let tys = c.args.types.now in
+    let i = c.loop-i.i in
+    let short : i < length tys = omega (arith, c.loop-i-test.true) in
+    let filled = c.sizes.ensures types c.requires.knows in
+    let pair = subst (λ (ps : List ArchitectureSize). IsPairOf (get_or ps i nowhere) (λ w. slice_index (field_offsets w (record_of types tys)) i)) (sym c.as_slice.ensures) (c.in_ok-places.ensures.each types i nowhere filled short) in
     record {
       down = c.requires.down;
       below = part_below_within (length types) c.args.types.now c.requires.below c.loop-i.i wit.Bool short (length types) (omega arith);
       knows = c.loop-i.invariant.adds.grows.knows types c.requires.knows;
+      serves = part_served types c.args.types.now c.loop-i.i wit.Bool c.requires.serves short;
+      low = small_part types tys i wit.Bool short (get_or c.as_slice.result.now i nowhere) c.requires.small pair;
     }
+
+pub record_places-requires-clause-small : goal.record_places-requires-clause-small
+record_places-requires-clause-small g c =
+    let types = c.args.resolve.now.types in
+    let tys = c.args.types.now in
+    let filled = c.sizes.ensures types c.requires.knows in
+    small_fits c.sizes.result.now tys (have_places c.sizes.result.now types tys filled c.requires.below) types filled c.requires.small
 
 pub loop-i-preserved : goal.loop-i-preserved
 loop-i-preserved g c =

@@ -26,10 +26,10 @@ returns g c =
     let operands = c.in_ok-push.ensures.ok ∙ ap (λ (os : List g.row.B-Operand.Denot). os ++ c.in_ok-length.length ∷ []) c.in_ok-operands.ensures in
     let e = subst (λ (os : List g.row.B-Operand.Denot). Emits m types GuestDeallocateString os c.in_ok-_none._none c.load_word-2.new.bindgen c.send.new.bindgen) operands c.in_ok-_none.ensures in
     let flat = text_freed m sound types _ _ c.in_ok-place.place c.in_ok-length.length c.in_ok-_none._none e in
-    let behind = c.in_ok-behind.behind in
-    let code = free_text_code types c.args.offset ∙ ap (λ o. sends (PointerLoad c.args.offset) ∷ sends (LengthLoad o) ∷ sends GuestDeallocateString ∷ []) (sym c.in_ok-behind.ensures) in
+    let behind = c.behind_pointer-behind.result in
+    let code = free_text_code types c.args.offset ∙ ap (λ o. sends (PointerLoad c.args.offset) ∷ sends (LengthLoad o) ∷ sends GuestDeallocateString ∷ []) (sym c.behind_pointer-behind.ensures) in
     let steps = sends_three m types (PointerLoad c.args.offset) (LengthLoad behind) GuestDeallocateString _ _ _ _ _ _ _ _ _ _ c.in_ok-place.ensures c.in_ok-length.ensures e in
     record {
-      frees = text_frees m sound types _ _ _ _ c.args.address.now c.in_ok-place.place c.in_ok-length.length c.args.offset behind (behind_at c.args.offset behind _ c.in_ok-behind.ensures) c.in_ok-place.ensures c.in_ok-length.ensures flat;
+      frees = text_frees m sound types _ _ _ _ c.args.address.now c.in_ok-place.place c.in_ok-length.length c.args.offset behind (behind_at c.args.offset behind _ c.behind_pointer-behind.ensures) c.in_ok-place.ensures c.in_ok-length.ensures flat;
       sends = sends_as m types _ _ _ _ code steps;
     }

@@ -1,4 +1,4 @@
-use Rattle.std.proofs.Common.{◌<◌, ◌≤◌, ◌^◌, List, [], ◌∷◌, length, refl, subst, arith}
+use Rattle.std.proofs.Common.{◌<◌, List, [], ◌∷◌, length, refl, subst}
 use Rattle.abi_bindgen.specs.Instructions.{Emits}
 use Rattle.abi_bindgen.specs.declared.instruction.Instruction.TheVariants.{EnumLift}
 use Rattle.abi_driver.proofs.EnumSteps.{enum_lifts}
@@ -15,14 +15,13 @@ returns g c =
     let here = c.requires.here in
     let e = subst (λ (os : List g.row.B-Operand.Denot). Emits m types (EnumLift c.args.id) os (c.in_ok-operand.operand ∷ []) c.args.bindgen.now c.send_one.new.bindgen) c.in_ok-operands.ensures c.in_ok-operand.ensures in
     let short : c.args.at < length c.args.words.now = c.requires.enough in
-    let most : length c.args.members.now ≤ 2 ^ 31 = omega (arith, c.if-len-gt-MOST_CASES.false, c.len.ensures) in
     let shape = enum_shape types c.requires.down c.args.id.0 here.entry here.stands c.args.members.now here.kind in
     record {
       next = refl;
       lifts = lifts_as m g.met.B.Bindgen.sound types _ _ _ _ c.args.words.now c.args.at _ _ shape (
         c.in_ok-tag.tag ∷ [],
         drop-same c.args.words.now c.args.words.now c.args.at c.in_ok-tag.tag c.index-words-at.result refl short c.index-words-at.is c.in_ok-tag.ensures,
-        enum_lifts m g.met.B.Bindgen.sound types c.args.id c.args.members.now _ _ c.in_ok-tag.tag c.in_ok-operand.operand here most e,
+        enum_lifts m g.met.B.Bindgen.sound types c.args.id c.args.members.now _ _ c.in_ok-tag.tag c.in_ok-operand.operand here c.requires.few e,
       );
       sends = sends_as m types _ _ _ _ (lift_enum_code types c.requires.down c.args.id here.entry here.stands c.args.members.now here.kind) (sends_one m types (EnumLift c.args.id) _ _ _ _ c.in_ok-operand.ensures);
     }

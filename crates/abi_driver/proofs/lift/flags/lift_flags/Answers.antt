@@ -5,12 +5,13 @@ use Rattle.wit_layout.specs.Flat.{words_of_flags}
 use Rattle.abi_bindgen.specs.FlagSets.{AreFlags}
 use Rattle.abi_bindgen.specs.Instructions.{Emits}
 use Rattle.abi_bindgen.specs.declared.instruction.Instruction.TheVariants.{FlagsLift}
-use Rattle.abi_driver.proofs.FlagSteps.{flags_lifts, length_words}
+use Rattle.abi_driver.proofs.FlagSteps.{flags_lifts}
 use Rattle.abi_bindgen.proofs.FlagLowers.{one_count}
 use Rattle.abi_bindgen.proofs.FlatCode.{lift_flags_code}
 use Rattle.abi_driver.proofs.LiftSteps.{lifts_as}
 use Rattle.abi_bindgen.proofs.Records.{flags_shape}
 use Rattle.abi_bindgen.proofs.SendSteps.{sends_as, sends_one}
+use Rattle.abi_bindgen.proofs.WordCounts.{length_words}
 use Rattle.abi_driver.proofs.lift.flags.lift_flags.Goals as goal
 
 pub send_one-requires : goal.send_one-requires

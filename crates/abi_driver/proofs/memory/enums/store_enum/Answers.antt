@@ -1,4 +1,4 @@
-use Rattle.std.proofs.Common.{◌≤◌, ◌^◌, List, [], ◌∷◌, length, ap, ◌∙◌, subst, arith}
+use Rattle.std.proofs.Common.{List, [], ◌∷◌, length, ap, ◌∙◌, subst}
 use Rattle.wit_layout.specs.Extent.{discriminant_grain}
 use Rattle.abi_bindgen.specs.Instructions.{Emits}
 use Rattle.abi_bindgen.specs.NumberTouches.{tag_store}
@@ -32,7 +32,7 @@ returns g c =
     let e = subst (λ (os : List g.row.B-Operand.Denot). Emits m types (EnumLower c.args.id) (c.args.value ∷ []) os c.args.bindgen.now c.lower_by.new.bindgen) one made in
     let is = c.tag_store-store.ensures ∙ ap (λ n. tag_store n c.args.offset) c.len-cases.ensures in
     let store = subst (λ (i : Instruction). Emits m types i (tag ∷ c.args.address.now ∷ []) [] c.lower_by.new.bindgen c.store_word.new.bindgen) is c.in_ok-store_word.ensures in
-    let most : length members ≤ 2 ^ 31 = omega (arith, c.if-cases-gt-MOST_CASES.false, c.len-cases.ensures) in
+    let most = c.requires.most in
     let shape = enum_shape types c.requires.down c.args.id.0 here.entry here.stands members here.kind in
     record {
       stores = λ realloc. stores_as m sound types realloc _ _ _ _ c.args.value c.args.address.now c.args.offset shape

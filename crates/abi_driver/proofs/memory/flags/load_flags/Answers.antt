@@ -2,6 +2,7 @@ use Rattle.std.proofs.Common.{◌≡◌, ℕ, ◌+◌, List, [], ◌∷◌, ◌+
 use Rattle.std.proofs.lemmas.List.{length-append}
 use Rattle.wit_layout.specs.Extent.{flag_words, flags_extent}
 use Rattle.wit_layout.specs.Flat.{words_of_flags}
+use Rattle.wrapper_meaning.specs.Shape.{Shape}
 use Rattle.abi_bindgen.specs.FlagSets.{AreFlags}
 use Rattle.abi_bindgen.specs.Instructions.{Emits}
 use Rattle.abi_bindgen.specs.NumberTouches.{flags_load, number_load}
@@ -9,12 +10,15 @@ use Rattle.abi_bindgen.specs.Sent.{Sent, sends}
 use Rattle.abi_bindgen.specs.declared.instruction.Instruction.{Instruction}
 use Rattle.abi_bindgen.specs.declared.instruction.Instruction.TheVariants.{FlagsLift}
 use Rattle.abi_bindgen.proofs.FlagLowers.{one_count}
-use Rattle.abi_driver.proofs.FlagSteps.{each_alike, flags_grain_small, flags_loads, length_words, place_of}
+use Rattle.abi_driver.specs.Low.{EndsLow}
+use Rattle.abi_driver.proofs.FlagSteps.{each_alike, flags_grain_small, flags_loads, place_of}
 use Rattle.abi_driver.proofs.LoadSteps.{loads_as}
+use Rattle.abi_driver.proofs.LowPlaces.{flag_word_low}
 use Rattle.abi_driver.proofs.MemoryCode.{load_flags_code}
 use Rattle.abi_driver.proofs.NumberWords.{LoadedOn, loaded_more, loaded_sends}
 use Rattle.abi_driver.proofs.Sendable.{makeable_number_load}
 use Rattle.abi_bindgen.proofs.Records.{flags_shape}
+use Rattle.abi_bindgen.proofs.WordCounts.{length_words}
 use Rattle.abi_bindgen.proofs.SendSteps.{sends_as, sends_both, sends_one}
 use Rattle.abi_driver.proofs.memory.flags.load_flags.Goals as goal
 
@@ -34,7 +38,7 @@ loop-nth-preserved g c =
     let address = c.args.address.now in
     let grain = (flags_extent (length c.args.members.now)).grain in
     let place = place_of c.args.offset in
-    let is = c.number_load-load.ensures ∙ ap₂ number_load (c.flags_grain-grain.ensures ∙ ap (λ n. (flags_extent n).grain) c.len-flags.ensures) c.in_ok-place.ensures in
+    let is = c.number_load-load.ensures ∙ ap₂ number_load (c.flags_grain-grain.ensures ∙ ap (λ n. (flags_extent n).grain) c.len-flags.ensures) c.word_offset-place.ensures in
     let one = subst (λ (i : Instruction). Emits m types i (address ∷ []) (word ∷ []) c.loop-nth.bindgen c.load_word.new.bindgen) is c.in_ok-word.ensures in
     let P : List g.row.B-Operand.Denot → Type 0 = λ os. LoadedOn m types grain place address 0 os c.args.bindgen.now c.load_word.new.bindgen in
     let more = loaded_more m g.met.B.Bindgen.sound types grain (flags_grain_small (length c.args.members.now)) place address 0 words word nth _ _ _ c.loop-nth.invariant.loaded (omega (arith, c.loop-nth.invariant.count)) one in
@@ -43,9 +47,17 @@ loop-nth-preserved g c =
       loaded = subst P (sym c.in_ok-push.ensures.ok) more;
     }
 
+pub word_offset-place-requires : goal.word_offset-place-requires
+word_offset-place-requires g c =
+    let types = c.args.resolve.now.types in
+    let here = c.requires.here in
+    let members = c.args.members.now in
+    let low = subst (λ (s : Shape). EndsLow s c.args.offset) (flags_shape types c.requires.down c.args.id.0 here.entry here.stands members here.kind) c.requires.low in
+    flag_word_low (length members) c.loop-nth.nth c.args.offset low (omega (arith, c.loop-nth-test.true, c.flag_words-count.ensures, ap flag_words c.len-flags.ensures))
+
 pub load_word-requires : goal.load_word-requires
 load_word-requires g c =
-    let may = makeable_number_load g.B.Bindgen.meaning c.args.resolve.now c.in_ok-place.place c.number_load-load.result c.loop-nth.bindgen c.args.address.now c.flags_grain-grain.result c.number_load-load.ensures in
+    let may = makeable_number_load g.B.Bindgen.meaning c.args.resolve.now c.word_offset-place.result c.number_load-load.result c.loop-nth.bindgen c.args.address.now c.flags_grain-grain.result c.number_load-load.ensures in
     record { sendable = may.sendable; makes = may.makes }
 
 pub send_one-requires-clause-ready : goal.send_one-requires-clause-ready

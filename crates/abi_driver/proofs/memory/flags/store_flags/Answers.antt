@@ -2,6 +2,7 @@ use Rattle.std.proofs.Common.{◌≡◌, ℕ, suc, ◌<◌, ◌+◌, ◌-◌, Li
 use Rattle.std.proofs.lemmas.List.{drop_all}
 use Rattle.wit_layout.specs.Extent.{flags_extent}
 use Rattle.wit_layout.specs.Flat.{words_of_flags}
+use Rattle.wrapper_meaning.specs.Shape.{Shape}
 use Rattle.abi_bindgen.specs.FlagSets.{AreFlags}
 use Rattle.abi_bindgen.specs.Instructions.{Emits}
 use Rattle.abi_bindgen.specs.NumberTouches.{flags_store, number_store}
@@ -9,11 +10,14 @@ use Rattle.abi_bindgen.specs.Sent.{Sent, sends}
 use Rattle.abi_bindgen.specs.declared.instruction.Instruction.{Instruction}
 use Rattle.abi_bindgen.specs.declared.instruction.Instruction.TheVariants.{FlagsLower}
 use Rattle.abi_bindgen.proofs.FlagLowers.{flags_lowers}
+use Rattle.abi_driver.specs.Low.{EndsLow}
 use Rattle.abi_driver.proofs.FlagSteps.{each_alike, flags_grain_small, flags_stores, place_of}
+use Rattle.abi_driver.proofs.LowPlaces.{flag_word_low}
 use Rattle.abi_driver.proofs.MemoryCode.{store_flags_code}
 use Rattle.abi_driver.proofs.NumberWords.{StoredBack, stored_sends}
 use Rattle.abi_driver.proofs.Sendable.{makeable_number_store}
 use Rattle.abi_bindgen.proofs.Records.{drop-same, flags_shape}
+use Rattle.abi_bindgen.proofs.WordCounts.{length_words}
 use Rattle.abi_bindgen.proofs.SendSteps.{sends_as, sends_then}
 use Rattle.abi_driver.proofs.StoreSteps.{stores_as}
 use Rattle.abi_driver.proofs.memory.flags.store_flags.Goals as goal
@@ -44,16 +48,26 @@ loop-behind-preserved g c =
     let left : count - behind ≡ suc nth = omega (arith, room) in
     let fewer : nth ≡ count - (behind + 1) = omega (arith, room) in
     let later : Stored (suc nth) (drop (suc nth) words) c.loop-behind.bindgen = subst (λ j. Stored j (drop j words) c.loop-behind.bindgen) left c.loop-behind.invariant in
-    let is = c.number_store-store.ensures ∙ ap₂ number_store (c.flags_grain-grain.ensures ∙ ap (λ n. (flags_extent n).grain) c.len.ensures) c.in_ok-place.ensures in
+    let is = c.number_store-store.ensures ∙ ap₂ number_store (c.flags_grain-grain.ensures ∙ ap (λ n. (flags_extent n).grain) c.len.ensures) c.word_offset-place.ensures in
     let one = subst (λ (i : Instruction). Emits m types i (word ∷ address ∷ []) [] c.loop-behind.bindgen c.store_word.new.bindgen) is c.in_ok-store_word.ensures in
     let next : nth + 1 ≡ suc nth = omega arith in
     let split : drop nth words ≡ word ∷ drop (suc nth) words = drop-same words words nth word c.index-words-nth.result refl short c.index-words-nth.is c.in_ok-word.ensures ∙ ap (λ j. word ∷ drop j words) next in
     let here : Stored nth (drop nth words) c.store_word.new.bindgen = subst (λ os. Stored nth os c.store_word.new.bindgen) (sym split) (c.loop-behind.bindgen, later, one) in
     subst (λ j. Stored j (drop j words) c.store_word.new.bindgen) fewer here
 
+pub word_offset-place-requires : goal.word_offset-place-requires
+word_offset-place-requires g c =
+    let types = c.args.resolve.now.types in
+    let here = c.requires.here in
+    let members = c.args.members.now in
+    let words = c.as_slice-words.result.now in
+    let low = subst (λ (s : Shape). EndsLow s c.args.offset) (flags_shape types c.requires.down c.args.id.0 here.entry here.stands members here.kind) c.requires.low in
+    let many = ap length c.as_slice-words.ensures ∙ c.in_ok-words.ensures.results (length members) (members, here, refl) ∙ length_words (length members) in
+    flag_word_low (length members) (length words - 1 - c.loop-behind.behind) c.args.offset low (omega (arith, c.loop-behind-test.true, many))
+
 pub store_word-requires : goal.store_word-requires
 store_word-requires g c =
-    let may = makeable_number_store g.B.Bindgen.meaning c.args.resolve.now c.in_ok-place.place c.number_store-store.result c.loop-behind.bindgen c.in_ok-word.word c.args.address.now c.flags_grain-grain.result c.number_store-store.ensures in
+    let may = makeable_number_store g.B.Bindgen.meaning c.args.resolve.now c.word_offset-place.result c.number_store-store.result c.loop-behind.bindgen c.in_ok-word.word c.args.address.now c.flags_grain-grain.result c.number_store-store.ensures in
     record { sendable = may.sendable; silent = may.makes }
 
 pub returns : goal.returns

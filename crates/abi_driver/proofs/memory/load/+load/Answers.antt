@@ -15,10 +15,11 @@ use Rattle.wit_layout.specs.Extent.{discriminant_grain}
 use Rattle.wit_layout.specs.Sizes.{field_offsets}
 use Rattle.wit_layout.specs.Told.{is_alias}
 use Rattle.wit_layout.specs.Tree.{tree_at}
-use Rattle.wrapper_meaning.specs.Shape.{Shape, payload_in, shape_of, shapes}
+use Rattle.wrapper_meaning.specs.Shape.{Shape, payload_in, payloads_in, shape_of, shapes}
+use Rattle.wrapper_meaning.specs.Shape.Shape.{cases}
 use Rattle.abi_bindgen.specs.declared.instruction.Instruction.{Instruction}
 use Rattle.abi_bindgen.specs.declared.instruction.Instruction.TheVariants.{RecordLift, TupleLift}
-use Rattle.abi_bindgen.specs.Cases.{result_counts}
+use Rattle.abi_bindgen.specs.Cases.{payloads_of, result_counts}
 use Rattle.abi_bindgen.specs.Code.{at_payload, beyond, each, load_code, place_in}
 use Rattle.abi_bindgen.specs.HasList.{IsKindOf}
 use Rattle.abi_bindgen.specs.Instructions.{Emits, HasBlocks, IsRecord, IsSendable, Makes, case_lifting, shapes_of, has_cases}
@@ -28,18 +29,22 @@ use Rattle.abi_bindgen.specs.Sends.{Sends}
 use Rattle.abi_driver.specs.Loads.{LiftsFromMemory, LoadsParts}
 use Rattle.abi_bindgen.specs.Places.{HasParts, IsOfParts}
 use Rattle.abi_bindgen.specs.Sent.{Sent, closes, opens, sends}
+use Rattle.abi_bindgen.specs.Served.{Serves, ServesAll}
+use Rattle.abi_driver.specs.Low.{EndsLow}
 use Rattle.abi_driver.proofs.CaseInstructions.{lifting_sendable}
 use Rattle.abi_driver.proofs.LiftedVariants.{lifting_makes}
 use Rattle.abi_driver.proofs.CaseLoads.{bare_loads, payload_loads, rest_last as last_case, rest_next as next_case}
 use Rattle.abi_driver.proofs.CaseSteps.{are_finished, resumes_both, resumes_same}
-use Rattle.abi_bindgen.proofs.Payloads.{payload_some, variant_below}
+use Rattle.abi_bindgen.proofs.Payloads.{payload_some, variant_below, variant_shape}
+use Rattle.abi_bindgen.proofs.Serving.{alias_served, few_payloads, other_refused, part_served, payload_served, payloads_served, record_served, tuple_served}
+use Rattle.abi_driver.proofs.LowPlaces.{part_ends, part_low, payload_ends, payload_low as payload_begins, payloads_low}
 use Rattle.abi_driver.proofs.NumberWords.{number_load_adds}
 use Rattle.abi_driver.proofs.VariantLoads.{loaded_variant}
 use Rattle.abi_driver.proofs.LoadSteps.{loads_as, loads_parts_as, record_loads, rest_last, rest_next, tuple_loads}
 use Rattle.abi_driver.proofs.MemoryCode.{load_alias_code, load_record_code, load_tuple_code}
 use Rattle.abi_driver.proofs.PartOffsets.{behind_next, cases_no_alias, no_alias, part_offset, place_sent}
 use Rattle.abi_driver.proofs.RecordPlaces.{place_told}
-use Rattle.abi_bindgen.proofs.Records.{alias_below, alias_rank, alias_shape, count-shapes, entry_at, kind_at, one_record, part_below_table, part_ranked, payload_low, payload_type_low, record_below, record_shape, tuple_below, tuple_shape, type_below_table, type_ranked}
+use Rattle.abi_bindgen.proofs.Records.{alias_below, alias_rank, alias_shape, count-shapes, entry_at, kind_at, one_record, part_below_table, part_ranked, payload_low, payload_type_low, record_below, record_shape, tuple_below, tuple_shape, tuple_short, type_below_table, type_ranked}
 use Rattle.abi_bindgen.proofs.Runs.{adds_both, adds_same}
 use Rattle.abi_bindgen.proofs.SendSteps.{sends_as, sends_block, sends_both, sends_last, sends_next, sends_one}
 use Rattle.abi_driver.proofs.memory.load.+load.Goals as goal
@@ -50,7 +55,15 @@ load_type-load_id-requires g t c κs within =
     let n = length c.args.resolve.now.types in
     let deep : rank c.args.ty ≡ c.in-Id.id.0 + 1 = ap rank c.in-Id.is ∙ omega arith in
     let inside : c.in-Id.id.0 < n = ltb-true c.in-Id.id.0 n (ap (type_below n) (sym c.in-Id.is) ∙ c.requires.below) in
-    (omega arith, (within.0, (within.1, (c.requires.well, (c.requires.down, (inside, c.requires.knows))))))
+    let types = c.args.resolve.now.types in
+    let serves = subst (λ (ty : WitType). Serves (shape_of types ty)) c.in-Id.is c.requires.serves in
+    let low = subst (λ (ty : WitType). EndsLow (shape_of types ty) c.args.offset) c.in-Id.is c.requires.low in
+    (omega arith, (within.0, (within.1, (c.requires.well, (c.requires.down, (inside, (c.requires.knows, (serves, low))))))))
+
+pub load_type-load_text-requires : goal.load_type-load_text-requires
+load_type-load_text-requires g t c =
+    let types = c.args.resolve.now.types in
+    record { low = subst (λ (ty : WitType). EndsLow (shape_of types ty) c.args.offset) c.in-String.is c.requires.low }
 
 pub load_type-returns-in-String : goal.load_type-returns-in-String
 load_type-returns-in-String g t c =
@@ -80,7 +93,9 @@ load_id-load_type-requires g t c κs within =
     let is = kind_at c.as_slice-types.result.now c.args.id.0 d (kind.Alias c.in-Alias.ty) c.index-types-at.is c.in-Alias.is in
     let low : rank c.in-Alias.ty ≤ c.args.id.0 = alias_rank types c.requires.down c.args.id.0 d at c.in-Alias.ty is in
     let below = alias_below types c.requires.down c.args.id.0 d at c.in-Alias.ty is c.requires.within in
-    (omega (arith, low), (within.0, (within.1, (c.requires.well, (c.requires.down, (below, c.requires.knows))))))
+    let serves = alias_served types c.requires.down c.args.id.0 d at c.requires.serves c.in-Alias.ty is in
+    let ends = subst (λ (s : Shape). EndsLow s c.args.offset) (alias_shape types c.requires.down c.args.id.0 d at c.in-Alias.ty is) c.requires.low in
+    (omega (arith, low), (within.0, (within.1, (c.requires.well, (c.requires.down, (below, (c.requires.knows, (serves, ends))))))))
 
 pub load_id-load_parts-requires : goal.load_id-load_parts-requires
 load_id-load_parts-requires g t c κs within =
@@ -93,7 +108,8 @@ load_id-load_parts-requires g t c κs within =
     let same : read ≡ map (λ (f : Field). f.ty) members = c.as_slice-tys.ensures ∙ c.in_ok-tys-in-Record.ensures ∙ ap (map (λ (f : Field). f.ty)) c.as_slice.ensures in
     let below = subst (λ (xs : List WitType). list_all (λ ty. type_below c.args.id.0 ty) xs ≡ true) (sym same) (record_below types c.requires.down c.args.id.0 d at members is) in
     let parts : HasParts types c.args.id.0 read = (d, at, subst (λ k. IsOfParts k read) (sym is) same) in
-    (omega arith, (within.0, (within.1, (c.requires.well, (c.requires.down, (c.requires.within, (below, (parts, c.requires.knows))))))))
+    let serves = subst (λ (xs : List WitType). ServesAll (shapes_of types xs)) (sym same) (record_served types c.requires.down c.args.id.0 d at c.requires.serves members is) in
+    (omega arith, (within.0, (within.1, (c.requires.well, (c.requires.down, (c.requires.within, (below, (parts, (c.requires.knows, (serves, c.requires.low))))))))))
 
 pub load_id-send_one-requires-clause-ready : goal.load_id-send_one-requires-clause-ready
 load_id-send_one-requires-clause-ready g t c =
@@ -116,7 +132,35 @@ load_id-load_parts-requires-in-Tuple g t c κs within =
     let read = c.as_slice-tys-in-Tuple.result.now in
     let below = subst (λ (xs : List WitType). list_all (λ ty. type_below c.args.id.0 ty) xs ≡ true) (sym c.as_slice-tys-in-Tuple.ensures) (tuple_below types c.requires.down c.args.id.0 d at c.in-Tuple.members is) in
     let parts : HasParts types c.args.id.0 read = (d, at, subst (λ k. IsOfParts k read) (sym is) c.as_slice-tys-in-Tuple.ensures) in
-    (omega arith, (within.0, (within.1, (c.requires.well, (c.requires.down, (c.requires.within, (below, (parts, c.requires.knows))))))))
+    let serves = subst (λ (xs : List WitType). ServesAll (shapes_of types xs)) (sym c.as_slice-tys-in-Tuple.ensures) (tuple_served types c.requires.down c.args.id.0 d at c.requires.serves c.in-Tuple.members is) in
+    (omega arith, (within.0, (within.1, (c.requires.well, (c.requires.down, (c.requires.within, (below, (parts, (c.requires.knows, (serves, c.requires.low))))))))))
+
+pub load_id-part_count-requires : goal.load_id-part_count-requires
+load_id-part_count-requires g t c =
+    let types = c.args.resolve.now.types in
+    let d = c.index-types-at.result in
+    let at = entry_at types c.as_slice-types.result.now c.args.id.0 d c.as_slice-types.ensures c.requires.within c.index-types-at.is in
+    let is = kind_at c.as_slice-types.result.now c.args.id.0 d (kind.Tuple c.in-Tuple.members) c.index-types-at.is c.in-Tuple.is in
+    let short = tuple_short c.args.resolve.now c.requires.well c.args.id.0 c.in-Tuple.members (record { entry = d; stands = at; kind = is }) in
+    omega (arith, ap length c.as_slice-tys-in-Tuple.ensures, short)
+
+pub load_id-load_flags-requires : goal.load_id-load_flags-requires
+load_id-load_flags-requires g t c =
+    let types = c.args.resolve.now.types in
+    let d = c.index-types-at.result in
+    let at = entry_at types c.as_slice-types.result.now c.args.id.0 d c.as_slice-types.ensures c.requires.within c.index-types-at.is in
+    let is = kind_at c.as_slice-types.result.now c.args.id.0 d (kind.Flags c.in-Flags.members) c.index-types-at.is c.in-Flags.is in
+    record { down = c.requires.down; here = record { entry = d; stands = at; kind = is }; low = c.requires.low }
+
+pub load_id-unreachable-requires : goal.load_id-unreachable-requires
+load_id-unreachable-requires g t c =
+    let types = c.args.resolve.now.types in
+    let d = c.index-types-at.result in
+    let k = (get_or c.as_slice-types.result.now c.args.id.0 d).kind in
+    let at = entry_at types c.as_slice-types.result.now c.args.id.0 d c.as_slice-types.ensures c.requires.within c.index-types-at.is in
+    let not = c.in_default in
+    other_refused types c.requires.down c.args.id.0 k (record { entry = d; stands = at; kind = ap (λ (x : TypeDef). x.kind) c.index-types-at.is }) c.requires.serves
+    (record { alias = not.not-Alias; tuple = not.not-Tuple; option = not.not-Option; result = not.not-Result; fields = not.not-Record; variant = not.not-Variant; enum = not.not-Enum; flags = not.not-Flags })
 
 pub load_id-returns-in-Alias : goal.load_id-returns-in-Alias
 load_id-returns-in-Alias g t c =
@@ -159,15 +203,15 @@ load_id-returns-in_ok-operand-in-Tuple g t c =
     let is = kind_at c.as_slice-types.result.now c.args.id.0 d (kind.Tuple c.in-Tuple.members) c.index-types-at.is c.in-Tuple.is in
     let tys = c.in-Tuple.members in
     let loads = loads_parts_as m g.met.B.Bindgen.sound types _ _ _ _ c.in_ok-parts-in-Tuple.parts c.args.address.now c.args.offset 0 c.as_slice-tys-in-Tuple.ensures c.in_ok-parts-in-Tuple.ensures.loads in
-    let count = count-shapes types tys ∙ sym (c.in_ok-part_count-in-Tuple.ensures ∙ ap length c.as_slice-tys-in-Tuple.ensures) in
-    let all = tuple_loads m g.met.B.Bindgen.sound types c.in_ok-part_count-in-Tuple.field-0 (shapes_of types tys) _ _ _ c.in_ok-parts-in-Tuple.parts c.args.address.now c.in_ok-operand-in-Tuple.operand c.args.offset count loads c.in_ok-operand-in-Tuple.ensures in
-    let many : length tys ≡ c.in_ok-part_count-in-Tuple.field-0 = sym (c.in_ok-part_count-in-Tuple.ensures ∙ ap length c.as_slice-tys-in-Tuple.ensures) in
+    let count = count-shapes types tys ∙ sym (c.part_count.ensures ∙ ap length c.as_slice-tys-in-Tuple.ensures) in
+    let all = tuple_loads m g.met.B.Bindgen.sound types c.part_count.result (shapes_of types tys) _ _ _ c.in_ok-parts-in-Tuple.parts c.args.address.now c.in_ok-operand-in-Tuple.operand c.args.offset count loads c.in_ok-operand-in-Tuple.ensures in
+    let many : length tys ≡ c.part_count.result = sym (c.part_count.ensures ∙ ap length c.as_slice-tys-in-Tuple.ensures) in
     let code : ℕ → WitType → List Sent = λ n ty. load_code types ty (beyond c.args.offset (place_in (tree_at types c.args.id.0) n)) in
     let parts = sends_as m types _ _ _ _ (ap (each code 0) (sym c.as_slice-tys-in-Tuple.ensures)) c.in_ok-parts-in-Tuple.ensures.sends in
     let all_code = load_tuple_code types c.requires.down c.args.id d at c.args.offset tys is ∙ ap (λ n. each code 0 tys ++ sends (TupleLift n) ∷ []) many in
     record {
       loads = loads_as m g.met.B.Bindgen.sound types _ _ _ _ _ c.in_ok-operand-in-Tuple.operand c.args.offset (tuple_shape types c.requires.down c.args.id.0 d at tys is) all;
-      sends = sends_as m types _ _ _ _ all_code (sends_both m types _ _ _ _ _ parts (sends_one m types (TupleLift c.in_ok-part_count-in-Tuple.field-0) _ _ _ _ c.in_ok-operand-in-Tuple.ensures));
+      sends = sends_as m types _ _ _ _ all_code (sends_both m types _ _ _ _ _ parts (sends_one m types (TupleLift c.part_count.result) _ _ _ _ c.in_ok-operand-in-Tuple.ensures));
     }
 
 pub load_parts-loop-i-init : goal.load_parts-loop-i-init
@@ -188,7 +232,18 @@ load_parts-load_type-requires g t c κs within =
     let low : rank (get_or c.args.tys.now c.loop-i.i wit.Bool) ≤ c.args.id.0 = part_ranked c.args.id.0 c.args.tys.now c.requires.below c.loop-i.i wit.Bool short in
     let below = part_below_table c.args.id.0 c.args.tys.now c.requires.below c.loop-i.i wit.Bool short (length types) c.requires.within in
     let knows = c.loop-i.invariant.adds.grows.knows types c.requires.knows in
-    (omega (arith, low), (within.0, (within.1, (c.requires.well, (c.requires.down, (below, knows))))))
+    let tys = c.args.tys.now in
+    let serves = part_served types tys c.loop-i.i wit.Bool c.requires.serves short in
+    let found = c.part_place-place.ensures types c.requires.parts.0 knows c.requires.parts.1 (no_alias 3 types c.args.id.0 tys c.requires.parts) in
+    let ends = part_ends types tys c.loop-i.i wit.Bool short c.args.id c.requires.down c.requires.parts c.args.offset c.requires.low c.part_place-place.result found.0 found.1 found.2 in
+    (omega (arith, low), (within.0, (within.1, (c.requires.well, (c.requires.down, (below, (knows, (serves, ends))))))))
+
+pub load_parts-part_place-place-requires : goal.load_parts-part_place-place-requires
+load_parts-part_place-place-requires g t c =
+    let types = c.args.resolve.now.types in
+    let short : c.loop-i.i < length c.args.tys.now = omega (arith, c.loop-i-test.true) in
+    let knows = c.loop-i.invariant.adds.grows.knows types c.requires.knows in
+    (types, knows, part_low types c.args.tys.now c.loop-i.i wit.Bool short c.args.id c.requires.down c.requires.parts c.args.offset c.requires.low)
 
 pub load_parts-loop-i-preserved : goal.load_parts-loop-i-preserved
 load_parts-loop-i-preserved g t c =
@@ -199,14 +254,14 @@ load_parts-loop-i-preserved g t c =
     let short : i < length tys = omega (arith, c.loop-i-test.true) in
     let knows = c.loop-i.invariant.adds.grows.knows types c.requires.knows in
     let tree = tree_at types c.args.id.0 in
-    let found = c.in_ok-place.ensures types c.requires.parts.0 knows c.requires.parts.1 (no_alias m.width types c.args.id.0 tys c.requires.parts) in
-    let place = place_told m.width c.in_ok-place.place c.args.offset found.0 (λ w. slice_index (field_offsets w tree) i) g.met.B.Bindgen.sound.wide found.1 found.2 in
-    let here = ap (load_code types (get_or tys i wit.Bool)) (sym (place_sent c.in_ok-place.place c.args.offset found.0 tree i found.1 found.2)) in
+    let found = c.part_place-place.ensures types c.requires.parts.0 knows c.requires.parts.1 (no_alias m.width types c.args.id.0 tys c.requires.parts) in
+    let place = place_told m.width c.part_place-place.result c.args.offset found.0 (λ w. slice_index (field_offsets w tree) i) g.met.B.Bindgen.sound.wide found.1 found.2 in
+    let here = ap (load_code types (get_or tys i wit.Bool)) (sym (place_sent c.part_place-place.result c.args.offset found.0 tree i found.1 found.2)) in
     record {
       adds = adds_both m _ _ _ c.loop-i.invariant.adds c.in_ok-part.ensures.loads.adds;
       sent = sends_next m types (λ n ty. load_code types ty (beyond c.args.offset (place_in tree n))) tys i wit.Bool _ _ _ short c.loop-i.invariant.sent (sends_as m types _ _ _ _ here c.in_ok-part.ensures.sends);
       count = ap length c.in_ok-push.ensures.ok ∙ length-append c.loop-i.parts (c.in_ok-part.part ∷ []) ∙ ap (λ n. n + 1) c.loop-i.invariant.count;
-      rest = rest_next m g.met.B.Bindgen.sound types tys c.args.address.now c.args.offset c.in_ok-place.place i c.loop-i.parts c.push.new.self _ _ _ (get_or tys i wit.Bool) c.in_ok-part.part
+      rest = rest_next m g.met.B.Bindgen.sound types tys c.args.address.now c.args.offset c.part_place-place.result i c.loop-i.parts c.push.new.self _ _ _ (get_or tys i wit.Bool) c.in_ok-part.part
           (drop_more tys i wit.Bool short)
           (behind_next m.width types tys i wit.Bool short)
           (place ∙ ap (λ n. bytes_at c.args.offset (2 ^ m.width) + n) (part_offset m.width types c.args.id tys i wit.Bool c.requires.down c.requires.parts short))
@@ -234,7 +289,7 @@ load_id-load_variant-requires g t c κs within =
     let k = (get_or c.as_slice-types.result.now c.args.id.0 d).kind in
     let here : IsKindOf types c.args.id.0 k = record { entry = d; stands = at; kind = ap (λ (x : TypeDef). x.kind) c.index-types-at.is } in
     let cases : has_cases k ≡ true = ap has_cases c.in-Variant.is in
-    (omega arith, (within.0, (within.1, (c.requires.well, (c.requires.down, (here, (cases, c.requires.knows)))))))
+    (omega arith, (within.0, (within.1, (c.requires.well, (c.requires.down, (here, (cases, (c.requires.knows, (c.requires.serves, c.requires.low)))))))))
 
 pub load_id-load_variant-requires-in-Option : goal.load_id-load_variant-requires-in-Option
 load_id-load_variant-requires-in-Option g t c κs within =
@@ -244,7 +299,7 @@ load_id-load_variant-requires-in-Option g t c κs within =
     let k = (get_or c.as_slice-types.result.now c.args.id.0 d).kind in
     let here : IsKindOf types c.args.id.0 k = record { entry = d; stands = at; kind = ap (λ (x : TypeDef). x.kind) c.index-types-at.is } in
     let cases : has_cases k ≡ true = ap has_cases c.in-Option.is in
-    (omega arith, (within.0, (within.1, (c.requires.well, (c.requires.down, (here, (cases, c.requires.knows)))))))
+    (omega arith, (within.0, (within.1, (c.requires.well, (c.requires.down, (here, (cases, (c.requires.knows, (c.requires.serves, c.requires.low)))))))))
 
 pub load_id-load_variant-requires-in-Result : goal.load_id-load_variant-requires-in-Result
 load_id-load_variant-requires-in-Result g t c κs within =
@@ -254,7 +309,7 @@ load_id-load_variant-requires-in-Result g t c κs within =
     let k = (get_or c.as_slice-types.result.now c.args.id.0 d).kind in
     let here : IsKindOf types c.args.id.0 k = record { entry = d; stands = at; kind = ap (λ (x : TypeDef). x.kind) c.index-types-at.is } in
     let cases : has_cases k ≡ true = ap has_cases c.in-Result.is in
-    (omega arith, (within.0, (within.1, (c.requires.well, (c.requires.down, (here, (cases, c.requires.knows)))))))
+    (omega arith, (within.0, (within.1, (c.requires.well, (c.requires.down, (here, (cases, (c.requires.knows, (c.requires.serves, c.requires.low)))))))))
 
 pub load_variant-load_cases-requires : goal.load_variant-load_cases-requires
 load_variant-load_cases-requires g t c κs within =
@@ -266,9 +321,23 @@ load_variant-load_cases-requires g t c κs within =
     let is : d.kind ≡ k = c.requires.here.kind in
     let same = c.as_slice-tys.ensures ∙ c.in_ok-payloads.ensures in
     let below = subst (λ (ps : List (Option WitType)). list_all (λ p. payload_below c.args.id.0 p) ps ≡ true) (sym same) (variant_below types c.requires.down c.args.id.0 k (record { entry = d; stands = at; kind = is }) c.requires.cases) in
-    let loaded = number_load_adds m g.met.B.Bindgen.sound types (discriminant_grain (length c.as_slice-tys.result.now)) c.args.offset (c.args.address.now ∷ []) (c.in_ok-tag.tag ∷ []) _ _ c.in_ok-tag.ensures.loads in
+    let loaded = number_load_adds m g.met.B.Bindgen.sound types (discriminant_grain (length c.as_slice-tys.result.now)) c.args.offset (c.args.address.now ∷ []) (c.in_ok-tag.tag ∷ []) _ _ c.in_ok-tag.ensures in
     let knows = loaded.grows.knows types c.requires.knows in
-    (omega arith, (within.0, (within.1, (c.requires.well, (c.requires.down, ((slice_get_within types c.args.id.0 d at), (below, knows)))))))
+    let shape = variant_shape types c.requires.down c.args.id.0 k c.requires.here c.requires.cases ∙ ap (λ (ps : List (Option WitType)). cases (payloads_in (shapes types) ps)) (sym same) in
+    let tys = c.as_slice-tys.result.now in
+    let serves = payloads_served types c.args.id.0 tys shape c.requires.serves in
+    let place = c.payload_place-place.ensures types d c.requires.knows at (ap is_alias is ∙ cases_no_alias 3 types k c.requires.cases) in
+    let low = payloads_low types c.args.id (payloads_in (shapes types) tys) shape c.args.offset c.requires.low c.payload_place-place.result place.0 place.1 place.2 in
+    (omega arith, (within.0, (within.1, (c.requires.well, (c.requires.down, ((slice_get_within types c.args.id.0 d at), (below, (knows, (serves, low)))))))))
+
+pub load_variant-payload_place-place-requires : goal.load_variant-payload_place-place-requires
+load_variant-payload_place-place-requires g t c =
+    let types = c.args.resolve.now.types in
+    let here = c.requires.here in
+    let k = c.args.kind.now in
+    let own = ap is_alias here.kind ∙ cases_no_alias 3 types k c.requires.cases in
+    let shape = variant_shape types c.requires.down c.args.id.0 k here c.requires.cases in
+    (types, c.requires.knows, payload_begins types c.args.id (payloads_in (shapes types) (payloads_of k)) shape c.args.offset c.requires.low here.entry here.stands own)
 
 pub load_variant-send_one-requires-clause-ready : goal.load_variant-send_one-requires-clause-ready
 load_variant-send_one-requires-clause-ready g t c =
@@ -305,10 +374,12 @@ load_variant-returns g t c =
     let lift = case_lifting k c.args.id in
     let tys = c.as_slice-tys.result.now in
     let tag = c.in_ok-tag.tag in
-    let found = c.in_ok-place.ensures types d c.requires.knows at (ap is_alias is ∙ cases_no_alias m.width types k has) in
+    let found = c.payload_place-place.ensures types d c.requires.knows at (ap is_alias is ∙ cases_no_alias m.width types k has) in
+    let shape = variant_shape types c.requires.down c.args.id.0 k c.requires.here has ∙ ap (λ (ps : List (Option WitType)). cases (payloads_in (shapes types) ps)) (sym same) in
+    let most = few_payloads types c.args.id.0 tys shape c.requires.serves in
     let sent = subst (λ (i : Instruction). Emits m types i c.in_ok-operands.operands (c.in_ok-operand.operand ∷ []) c.load_cases.new.bindgen c.send_one.new.bindgen) c.case_lifting-lift.ensures c.in_ok-operand.ensures in
     let e = subst (λ (os : List g.row.B-Operand.Denot). Emits m types lift os (c.in_ok-operand.operand ∷ []) c.load_cases.new.bindgen c.send_one.new.bindgen) c.in_ok-operands.ensures sent in
-    loaded_variant m g.met.B.Bindgen.sound types c.requires.down c.args.id d at k has is c.args.address.now tag c.in_ok-operand.operand c.args.offset c.in_ok-place.place found tys same c.in_ok-tag.ensures.most _ _ _ _ c.in_ok-tag.ensures.loads
+    loaded_variant m g.met.B.Bindgen.sound types c.requires.down c.args.id d at k has is c.args.address.now tag c.in_ok-operand.operand c.args.offset c.payload_place-place.result found tys same most _ _ _ _ c.in_ok-tag.ensures
     c.in_ok-load_cases.ensures.loads c.in_ok-load_cases.ensures.sends e
 
 pub load_cases-loop-i-init : goal.load_cases-loop-i-init
@@ -321,7 +392,9 @@ load_cases-load_case-requires g t c κs within =
     let short : c.loop-i.i < length c.args.payloads.now = omega (arith, c.loop-i-test.true) in
     let below = payload_low c.args.id.0 c.args.payloads.now c.requires.below c.loop-i.i None short in
     let knows = c.loop-i.invariant.resumes.knows c.args.resolve.now.types c.requires.knows in
-    (omega arith, (within.0, (within.1, (c.requires.well, (c.requires.down, (c.requires.within, (below, knows)))))))
+    let serves = payload_served c.args.resolve.now.types c.args.payloads.now c.loop-i.i None c.requires.serves short in
+    let low = payload_ends (shapes c.args.resolve.now.types) c.args.payloads.now c.loop-i.i None c.args.place c.requires.low short in
+    (omega arith, (within.0, (within.1, (c.requires.well, (c.requires.down, (c.requires.within, (below, (knows, (serves, low)))))))))
 
 pub load_cases-loop-i-preserved : goal.load_cases-loop-i-preserved
 load_cases-loop-i-preserved g t c =
@@ -353,7 +426,10 @@ load_cases-returns g t c =
 pub load_case-load_payload-requires : goal.load_case-load_payload-requires
 load_case-load_payload-requires g t c κs within =
     let below = payload_type_low c.args.id.0 c.in-Some.ty (subst (λ (p : Option WitType). payload_below c.args.id.0 p ≡ true) c.in-Some.is c.requires.below) in
-    (omega arith, (within.0, (within.1, (c.requires.well, (c.requires.down, (c.requires.within, (below, c.requires.knows)))))))
+    let ss = shapes c.args.resolve.now.types in
+    let serves = subst (λ (p : Option WitType). Serves (payload_in ss p)) c.in-Some.is c.requires.serves in
+    let low = subst (λ (p : Option WitType). EndsLow (payload_in ss p) c.args.place) c.in-Some.is c.requires.low in
+    (omega arith, (within.0, (within.1, (c.requires.well, (c.requires.down, (c.requires.within, (below, (c.requires.knows, (serves, low)))))))))
 
 pub load_case-returns-in_ok-empty_block-in-None : goal.load_case-returns-in_ok-empty_block-in-None
 load_case-returns-in_ok-empty_block-in-None g t c =
@@ -374,7 +450,7 @@ load_payload-load_type-requires g t c κs within =
     let low : rank c.args.ty ≤ c.args.id.0 = type_ranked c.args.id.0 c.args.ty c.requires.below in
     let below = type_below_table c.args.id.0 (length types) c.args.ty c.requires.below c.requires.within in
     let knows = c.in_ok-push_block.ensures.lasts.knows types c.requires.knows in
-    (omega (arith, low), (within.0, (within.1, (c.requires.well, (c.requires.down, (below, knows))))))
+    (omega (arith, low), (within.0, (within.1, (c.requires.well, (c.requires.down, (below, (knows, (c.requires.serves, c.requires.low))))))))
 
 pub load_payload-returns : goal.load_payload-returns
 load_payload-returns g t c =

@@ -27,11 +27,11 @@ returns g c =
     let types = c.args.resolve.now.types in
     let operands = c.in_ok-push.ensures.ok ∙ ap (λ (os : List g.row.B-Operand.Denot). os ++ c.in_ok-length.length ∷ []) c.in_ok-operands.ensures in
     let e = subst (λ (os : List g.row.B-Operand.Denot). Emits m types StringLift os (c.in_ok-operand.operand ∷ []) c.load_word-2.new.bindgen c.send_one.new.bindgen) operands c.in_ok-operand.ensures in
-    let behind = c.in_ok-behind.behind in
-    let code = load_text_code types c.args.offset ∙ ap (λ o. sends (PointerLoad c.args.offset) ∷ sends (LengthLoad o) ∷ sends StringLift ∷ []) (sym c.in_ok-behind.ensures) in
+    let behind = c.behind_pointer-behind.result in
+    let code = load_text_code types c.args.offset ∙ ap (λ o. sends (PointerLoad c.args.offset) ∷ sends (LengthLoad o) ∷ sends StringLift ∷ []) (sym c.behind_pointer-behind.ensures) in
     let steps = sends_three m types (PointerLoad c.args.offset) (LengthLoad behind) StringLift _ _ _ _ _ _ _ _ _ _ c.in_ok-place.ensures c.in_ok-length.ensures e in
     record {
-      loads = text_loads m sound types _ _ _ _ c.args.address.now c.in_ok-place.place c.in_ok-length.length c.in_ok-operand.operand c.args.offset behind (behind_at c.args.offset behind _ c.in_ok-behind.ensures) c.in_ok-place.ensures c.in_ok-length.ensures
+      loads = text_loads m sound types _ _ _ _ c.args.address.now c.in_ok-place.place c.in_ok-length.length c.in_ok-operand.operand c.args.offset behind (behind_at c.args.offset behind _ c.behind_pointer-behind.ensures) c.in_ok-place.ensures c.in_ok-length.ensures
           (text_lifts m sound types _ _ c.in_ok-place.place c.in_ok-length.length c.in_ok-operand.operand e);
       sends = sends_as m types _ _ _ _ code steps;
     }

@@ -18,6 +18,7 @@ use Rattle.wit_layout.specs.Tree.{tree_at}
 use Rattle.abi_bindgen.specs.declared.instruction.Instruction.{Instruction}
 use Rattle.abi_bindgen.specs.declared.instruction.Instruction.TheVariants.{I32Const, TupleLower, VariantPayloadName}
 use Rattle.wrapper_meaning.specs.Shape.{Shape, payload_in, payloads_in, shape_of, shapes}
+use Rattle.wrapper_meaning.specs.Shape.Shape.{cases}
 use Rattle.abi_bindgen.specs.Cases.{payloads_of}
 use Rattle.abi_bindgen.specs.Code.{beyond, each, place_in, store_case, store_code}
 use Rattle.abi_bindgen.specs.HasList.{IsKindOf}
@@ -27,11 +28,15 @@ use Rattle.abi_bindgen.specs.Parts.{count}
 use Rattle.abi_bindgen.specs.Places.{HasParts, IsOfParts}
 use Rattle.abi_bindgen.specs.Sends.{Sends}
 use Rattle.abi_bindgen.specs.Sent.{Sent, closes, opens, sends}
+use Rattle.abi_bindgen.specs.Served.{Serves, ServesAll}
+use Rattle.abi_driver.specs.Low.{EndsLow}
 use Rattle.abi_driver.specs.StoredCases.{StoresCase}
 use Rattle.abi_driver.specs.Stores.{LowersToMemory}
 use Rattle.abi_driver.proofs.CaseInstructions.{lowering_sendable}
 use Rattle.abi_driver.proofs.Tags.{tag_grain_small, tag_kept}
-use Rattle.abi_bindgen.proofs.Payloads.{count_payloads, payload_some, variant_below}
+use Rattle.abi_bindgen.proofs.Payloads.{count_payloads, payload_some, variant_below, variant_shape}
+use Rattle.abi_bindgen.proofs.Serving.{alias_served, enum_served, few_payloads, other_refused, part_served, payload_served, payloads_served, record_served, tuple_served}
+use Rattle.abi_driver.proofs.LowPlaces.{part_ends, part_low, payload_ends, payload_low as payload_begins, payloads_low}
 use Rattle.abi_driver.proofs.NumberWords.{number_store_adds}
 use Rattle.abi_driver.proofs.CaseSteps.{are_finished, resumes_both, resumes_same, same_back, side_opened, side_resumed}
 use Rattle.abi_driver.proofs.CaseStores.{payload_case, rest_last as last_case, rest_next as next_case}
@@ -40,7 +45,7 @@ use Rattle.abi_driver.proofs.MemoryCode.{store_alias_code, store_record_code, st
 use Rattle.abi_driver.proofs.PartOffsets.{behind_next, cases_no_alias, no_alias, part_offset, place_sent}
 use Rattle.abi_driver.proofs.RecordPlaces.{place_told}
 use Rattle.abi_driver.proofs.StoreSteps.{record_stores, rest_last, rest_next, stores_as, stores_parts_as, tuple_stores}
-use Rattle.abi_bindgen.proofs.Records.{alias_below, alias_rank, alias_shape, count-shapes, drop-same, entry_at, kind_at, part_below_table, part_ranked, payload_low, payload_type_low, record_below, record_shape, tuple_below, tuple_shape, type_below_table, type_ranked}
+use Rattle.abi_bindgen.proofs.Records.{alias_below, alias_rank, alias_shape, count-shapes, drop-same, entry_at, kind_at, part_below_table, part_ranked, payload_low, payload_type_low, record_below, record_shape, tuple_below, tuple_shape, tuple_short, type_below_table, type_ranked}
 use Rattle.abi_bindgen.proofs.Runs.{adds_both, adds_same, side_later}
 use Rattle.abi_bindgen.proofs.SendSteps.{sends_as, sends_block, sends_last, sends_next, sends_then}
 use Rattle.abi_driver.proofs.memory.store.+store.Goals as goal
@@ -57,7 +62,15 @@ store_type-store_id-requires g t c κs within =
     let n = length c.args.resolve.now.types in
     let deep : rank c.args.ty ≡ c.in-Id.id.0 + 1 = ap rank c.in-Id.is ∙ omega arith in
     let inside : c.in-Id.id.0 < n = ltb-true c.in-Id.id.0 n (ap (type_below n) (sym c.in-Id.is) ∙ c.requires.below) in
-    (omega arith, (within.0, (within.1, (c.requires.well, (c.requires.down, (inside, (c.requires.side, c.requires.knows)))))))
+    let types = c.args.resolve.now.types in
+    let serves = subst (λ (ty : WitType). Serves (shape_of types ty)) c.in-Id.is c.requires.serves in
+    let low = subst (λ (ty : WitType). EndsLow (shape_of types ty) c.args.offset) c.in-Id.is c.requires.low in
+    (omega arith, (within.0, (within.1, (c.requires.well, (c.requires.down, (inside, (c.requires.side, (c.requires.knows, (serves, low)))))))))
+
+pub store_type-store_text-requires : goal.store_type-store_text-requires
+store_type-store_text-requires g t c =
+    let types = c.args.resolve.now.types in
+    record { side = c.requires.side; low = subst (λ (ty : WitType). EndsLow (shape_of types ty) c.args.offset) c.in-String.is c.requires.low }
 
 pub store_type-returns-in-String : goal.store_type-returns-in-String
 store_type-returns-in-String g t c =
@@ -87,7 +100,9 @@ store_id-store_type-requires g t c κs within =
     let is = kind_at c.as_slice-types.result.now c.args.id.0 d (kind.Alias c.in-Alias.ty) c.index-types-at.is c.in-Alias.is in
     let low : rank c.in-Alias.ty ≤ c.args.id.0 = alias_rank types c.requires.down c.args.id.0 d at c.in-Alias.ty is in
     let below = alias_below types c.requires.down c.args.id.0 d at c.in-Alias.ty is c.requires.within in
-    (omega (arith, low), (within.0, (within.1, (c.requires.well, (c.requires.down, (below, (c.requires.side, c.requires.knows)))))))
+    let serves = alias_served types c.requires.down c.args.id.0 d at c.requires.serves c.in-Alias.ty is in
+    let ends = subst (λ (s : Shape). EndsLow s c.args.offset) (alias_shape types c.requires.down c.args.id.0 d at c.in-Alias.ty is) c.requires.low in
+    (omega (arith, low), (within.0, (within.1, (c.requires.well, (c.requires.down, (below, (c.requires.side, (c.requires.knows, (serves, ends)))))))))
 
 pub store_id-lower_by-requires : goal.store_id-lower_by-requires
 store_id-lower_by-requires g t c =
@@ -113,7 +128,8 @@ store_id-store_parts-requires g t c κs within =
     let side = side_later m _ _ c.args.realloc c.in_ok-parts-in-Record.ensures.adds.grows c.requires.side in
     let knows = c.in_ok-parts-in-Record.ensures.adds.grows.knows types c.requires.knows in
     let parts : HasParts types c.args.id.0 read = (d, at, subst (λ k. IsOfParts k read) (sym is) same) in
-    (omega arith, (within.0, (within.1, (c.requires.well, (c.requires.down, (c.requires.within, (below, (parts, (enough, (side, knows))))))))))
+    let serves = subst (λ (xs : List WitType). ServesAll (shapes_of types xs)) (sym same) (record_served types c.requires.down c.args.id.0 d at c.requires.serves members is) in
+    (omega arith, (within.0, (within.1, (c.requires.well, (c.requires.down, (c.requires.within, (below, (parts, (enough, (side, (knows, (serves, c.requires.low))))))))))))
 
 pub store_id-lower_by-requires-in-Tuple : goal.store_id-lower_by-requires-in-Tuple
 store_id-lower_by-requires-in-Tuple g t c = record { operands = refl; suits = tt }
@@ -127,11 +143,48 @@ store_id-store_parts-requires-in-Tuple g t c κs within =
     let is = kind_at c.as_slice-types.result.now c.args.id.0 d (kind.Tuple c.in-Tuple.members) c.index-types-at.is c.in-Tuple.is in
     let read = c.as_slice-tys-in-Tuple.result.now in
     let below = subst (λ (xs : List WitType). list_all (λ ty. type_below c.args.id.0 ty) xs ≡ true) (sym c.as_slice-tys-in-Tuple.ensures) (tuple_below types c.requires.down c.args.id.0 d at c.in-Tuple.members is) in
-    let enough : length c.in_ok-parts-in-Tuple.parts ≡ length read = c.in_ok-parts-in-Tuple.ensures.results ∙ c.in_ok-part_count-in-Tuple.ensures in
+    let enough : length c.in_ok-parts-in-Tuple.parts ≡ length read = c.in_ok-parts-in-Tuple.ensures.results ∙ c.part_count.ensures in
     let side = side_later m _ _ c.args.realloc c.in_ok-parts-in-Tuple.ensures.adds.grows c.requires.side in
     let knows = c.in_ok-parts-in-Tuple.ensures.adds.grows.knows types c.requires.knows in
     let parts : HasParts types c.args.id.0 read = (d, at, subst (λ k. IsOfParts k read) (sym is) c.as_slice-tys-in-Tuple.ensures) in
-    (omega arith, (within.0, (within.1, (c.requires.well, (c.requires.down, (c.requires.within, (below, (parts, (enough, (side, knows))))))))))
+    let serves = subst (λ (xs : List WitType). ServesAll (shapes_of types xs)) (sym c.as_slice-tys-in-Tuple.ensures) (tuple_served types c.requires.down c.args.id.0 d at c.requires.serves c.in-Tuple.members is) in
+    (omega arith, (within.0, (within.1, (c.requires.well, (c.requires.down, (c.requires.within, (below, (parts, (enough, (side, (knows, (serves, c.requires.low))))))))))))
+
+pub store_id-part_count-requires : goal.store_id-part_count-requires
+store_id-part_count-requires g t c =
+    let types = c.args.resolve.now.types in
+    let d = c.index-types-at.result in
+    let at = entry_at types c.as_slice-types.result.now c.args.id.0 d c.as_slice-types.ensures c.requires.within c.index-types-at.is in
+    let is = kind_at c.as_slice-types.result.now c.args.id.0 d (kind.Tuple c.in-Tuple.members) c.index-types-at.is c.in-Tuple.is in
+    let short = tuple_short c.args.resolve.now c.requires.well c.args.id.0 c.in-Tuple.members (record { entry = d; stands = at; kind = is }) in
+    omega (arith, ap length c.as_slice-tys-in-Tuple.ensures, short)
+
+pub store_id-store_enum-requires : goal.store_id-store_enum-requires
+store_id-store_enum-requires g t c =
+    let types = c.args.resolve.now.types in
+    let d = c.index-types-at.result in
+    let at = entry_at types c.as_slice-types.result.now c.args.id.0 d c.as_slice-types.ensures c.requires.within c.index-types-at.is in
+    let is = kind_at c.as_slice-types.result.now c.args.id.0 d (kind.Enum c.in-Enum.members) c.index-types-at.is c.in-Enum.is in
+    let most = enum_served types c.requires.down c.args.id.0 d at c.requires.serves c.in-Enum.members is in
+    record { down = c.requires.down; here = record { entry = d; stands = at; kind = is }; most = most }
+
+pub store_id-store_flags-requires : goal.store_id-store_flags-requires
+store_id-store_flags-requires g t c =
+    let types = c.args.resolve.now.types in
+    let d = c.index-types-at.result in
+    let at = entry_at types c.as_slice-types.result.now c.args.id.0 d c.as_slice-types.ensures c.requires.within c.index-types-at.is in
+    let is = kind_at c.as_slice-types.result.now c.args.id.0 d (kind.Flags c.in-Flags.members) c.index-types-at.is c.in-Flags.is in
+    record { down = c.requires.down; here = record { entry = d; stands = at; kind = is }; low = c.requires.low }
+
+pub store_id-unreachable-requires : goal.store_id-unreachable-requires
+store_id-unreachable-requires g t c =
+    let types = c.args.resolve.now.types in
+    let d = c.index-types-at.result in
+    let k = (get_or c.as_slice-types.result.now c.args.id.0 d).kind in
+    let at = entry_at types c.as_slice-types.result.now c.args.id.0 d c.as_slice-types.ensures c.requires.within c.index-types-at.is in
+    let not = c.in_default in
+    other_refused types c.requires.down c.args.id.0 k (record { entry = d; stands = at; kind = ap (λ (x : TypeDef). x.kind) c.index-types-at.is }) c.requires.serves
+    (record { alias = not.not-Alias; tuple = not.not-Tuple; option = not.not-Option; result = not.not-Result; fields = not.not-Record; variant = not.not-Variant; enum = not.not-Enum; flags = not.not-Flags })
 
 pub store_id-returns-in-Alias : goal.store_id-returns-in-Alias
 store_id-returns-in-Alias g t c =
@@ -174,9 +227,9 @@ store_id-returns-in_ok-store_parts-in-Tuple g t c =
     let is = kind_at c.as_slice-types.result.now c.args.id.0 d (kind.Tuple c.in-Tuple.members) c.index-types-at.is c.in-Tuple.is in
     let tys = c.in-Tuple.members in
     let later = stores_parts_as m g.met.B.Bindgen.sound types c.args.realloc _ _ _ _ c.in_ok-parts-in-Tuple.parts _ c.args.offset 0 c.as_slice-tys-in-Tuple.ensures c.in_ok-store_parts-in-Tuple.ensures.stores in
-    let count = count-shapes types tys ∙ sym (c.in_ok-part_count-in-Tuple.ensures ∙ ap length c.as_slice-tys-in-Tuple.ensures) in
-    let all = tuple_stores m g.met.B.Bindgen.sound types c.args.realloc c.in_ok-part_count-in-Tuple.field-0 (shapes_of types tys) _ _ _ c.args.value _ c.in_ok-parts-in-Tuple.parts c.args.offset count c.in_ok-parts-in-Tuple.ensures later in
-    let many : length tys ≡ c.in_ok-part_count-in-Tuple.field-0 = sym (c.in_ok-part_count-in-Tuple.ensures ∙ ap length c.as_slice-tys-in-Tuple.ensures) in
+    let count = count-shapes types tys ∙ sym (c.part_count.ensures ∙ ap length c.as_slice-tys-in-Tuple.ensures) in
+    let all = tuple_stores m g.met.B.Bindgen.sound types c.args.realloc c.part_count.result (shapes_of types tys) _ _ _ c.args.value _ c.in_ok-parts-in-Tuple.parts c.args.offset count c.in_ok-parts-in-Tuple.ensures later in
+    let many : length tys ≡ c.part_count.result = sym (c.part_count.ensures ∙ ap length c.as_slice-tys-in-Tuple.ensures) in
     let code : ℕ → WitType → List Sent = λ n ty. store_code types c.args.realloc ty (beyond c.args.offset (place_in (tree_at types c.args.id.0) n)) in
     let parts = sends_as m types _ _ _ _ (ap (each code 0) (sym c.as_slice-tys-in-Tuple.ensures)) c.in_ok-store_parts-in-Tuple.ensures.sends in
     let all_code = store_tuple_code types c.requires.down c.args.id d at c.args.offset c.args.realloc tys is ∙ ap (λ n. sends (TupleLower n) ∷ each code 0 tys) many in
@@ -199,7 +252,18 @@ store_parts-store_type-requires g t c κs within =
     let below = part_below_table c.args.id.0 c.args.tys.now c.requires.below c.loop-i.i wit.Bool short (length types) c.requires.within in
     let side = side_later m _ _ c.args.realloc c.loop-i.invariant.adds.grows c.requires.side in
     let knows = c.loop-i.invariant.adds.grows.knows types c.requires.knows in
-    (omega (arith, low), (within.0, (within.1, (c.requires.well, (c.requires.down, (below, (side, knows)))))))
+    let tys = c.args.tys.now in
+    let serves = part_served types tys c.loop-i.i wit.Bool c.requires.serves short in
+    let found = c.part_place-place.ensures types c.requires.parts.0 knows c.requires.parts.1 (no_alias 3 types c.args.id.0 tys c.requires.parts) in
+    let ends = part_ends types tys c.loop-i.i wit.Bool short c.args.id c.requires.down c.requires.parts c.args.offset c.requires.low c.part_place-place.result found.0 found.1 found.2 in
+    (omega (arith, low), (within.0, (within.1, (c.requires.well, (c.requires.down, (below, (side, (knows, (serves, ends)))))))))
+
+pub store_parts-part_place-place-requires : goal.store_parts-part_place-place-requires
+store_parts-part_place-place-requires g t c =
+    let types = c.args.resolve.now.types in
+    let short : c.loop-i.i < length c.args.tys.now = omega (arith, c.loop-i-test.true) in
+    let knows = c.loop-i.invariant.adds.grows.knows types c.requires.knows in
+    (types, knows, part_low types c.args.tys.now c.loop-i.i wit.Bool short c.args.id c.requires.down c.requires.parts c.args.offset c.requires.low)
 
 pub store_parts-loop-i-preserved : goal.store_parts-loop-i-preserved
 store_parts-loop-i-preserved g t c =
@@ -211,13 +275,13 @@ store_parts-loop-i-preserved g t c =
     let enough : i < length c.args.parts.now = omega (arith, short, c.requires.enough) in
     let knows = c.loop-i.invariant.adds.grows.knows types c.requires.knows in
     let tree = tree_at types c.args.id.0 in
-    let found = c.in_ok-place.ensures types c.requires.parts.0 knows c.requires.parts.1 (no_alias m.width types c.args.id.0 tys c.requires.parts) in
-    let place = place_told m.width c.in_ok-place.place c.args.offset found.0 (λ w. slice_index (field_offsets w tree) i) g.met.B.Bindgen.sound.wide found.1 found.2 in
-    let here = ap (store_code types c.args.realloc (get_or tys i wit.Bool)) (sym (place_sent c.in_ok-place.place c.args.offset found.0 tree i found.1 found.2)) in
+    let found = c.part_place-place.ensures types c.requires.parts.0 knows c.requires.parts.1 (no_alias m.width types c.args.id.0 tys c.requires.parts) in
+    let place = place_told m.width c.part_place-place.result c.args.offset found.0 (λ w. slice_index (field_offsets w tree) i) g.met.B.Bindgen.sound.wide found.1 found.2 in
+    let here = ap (store_code types c.args.realloc (get_or tys i wit.Bool)) (sym (place_sent c.part_place-place.result c.args.offset found.0 tree i found.1 found.2)) in
     record {
       adds = adds_both m _ _ _ c.loop-i.invariant.adds c.in_ok-store_type.ensures.stores.adds;
       sent = sends_next m types (λ n ty. store_code types c.args.realloc ty (beyond c.args.offset (place_in tree n))) tys i wit.Bool _ _ _ short c.loop-i.invariant.sent (sends_as m types _ _ _ _ here c.in_ok-store_type.ensures.sends);
-      rest = rest_next m g.met.B.Bindgen.sound types c.args.realloc tys c.args.parts.now _ c.args.offset c.in_ok-place.place i _ _ _ (get_or tys i wit.Bool) c.in_ok-part.part
+      rest = rest_next m g.met.B.Bindgen.sound types c.args.realloc tys c.args.parts.now _ c.args.offset c.part_place-place.result i _ _ _ (get_or tys i wit.Bool) c.in_ok-part.part
           (drop_more tys i wit.Bool short)
           (drop-same c.args.parts.now c.as_slice.result.now i c.in_ok-part.part c.index-as_slice-i.result c.as_slice.ensures enough c.index-as_slice-i.is c.in_ok-part.ensures)
           (behind_next m.width types tys i wit.Bool short)
@@ -245,7 +309,7 @@ store_id-store_variant-requires g t c κs within =
     let k = (get_or c.as_slice-types.result.now c.args.id.0 d).kind in
     let here : IsKindOf types c.args.id.0 k = record { entry = d; stands = at; kind = ap (λ (x : TypeDef). x.kind) c.index-types-at.is } in
     let cases : has_cases k ≡ true = ap has_cases c.in-Variant.is in
-    (omega arith, (within.0, (within.1, (c.requires.well, (c.requires.down, (here, (cases, (c.requires.side, c.requires.knows))))))))
+    (omega arith, (within.0, (within.1, (c.requires.well, (c.requires.down, (here, (cases, (c.requires.side, (c.requires.knows, (c.requires.serves, c.requires.low))))))))))
 
 pub store_id-store_variant-requires-in-Option : goal.store_id-store_variant-requires-in-Option
 store_id-store_variant-requires-in-Option g t c κs within =
@@ -255,7 +319,7 @@ store_id-store_variant-requires-in-Option g t c κs within =
     let k = (get_or c.as_slice-types.result.now c.args.id.0 d).kind in
     let here : IsKindOf types c.args.id.0 k = record { entry = d; stands = at; kind = ap (λ (x : TypeDef). x.kind) c.index-types-at.is } in
     let cases : has_cases k ≡ true = ap has_cases c.in-Option.is in
-    (omega arith, (within.0, (within.1, (c.requires.well, (c.requires.down, (here, (cases, (c.requires.side, c.requires.knows))))))))
+    (omega arith, (within.0, (within.1, (c.requires.well, (c.requires.down, (here, (cases, (c.requires.side, (c.requires.knows, (c.requires.serves, c.requires.low))))))))))
 
 pub store_id-store_variant-requires-in-Result : goal.store_id-store_variant-requires-in-Result
 store_id-store_variant-requires-in-Result g t c κs within =
@@ -265,7 +329,7 @@ store_id-store_variant-requires-in-Result g t c κs within =
     let k = (get_or c.as_slice-types.result.now c.args.id.0 d).kind in
     let here : IsKindOf types c.args.id.0 k = record { entry = d; stands = at; kind = ap (λ (x : TypeDef). x.kind) c.index-types-at.is } in
     let cases : has_cases k ≡ true = ap has_cases c.in-Result.is in
-    (omega arith, (within.0, (within.1, (c.requires.well, (c.requires.down, (here, (cases, (c.requires.side, c.requires.knows))))))))
+    (omega arith, (within.0, (within.1, (c.requires.well, (c.requires.down, (here, (cases, (c.requires.side, (c.requires.knows, (c.requires.serves, c.requires.low))))))))))
 
 pub store_variant-store_cases-requires : goal.store_variant-store_cases-requires
 store_variant-store_cases-requires g t c κs within =
@@ -276,7 +340,23 @@ store_variant-store_cases-requires g t c κs within =
     let is : d.kind ≡ k = c.requires.here.kind in
     let same = c.as_slice-tys.ensures ∙ c.in_ok-payloads.ensures in
     let below = subst (λ (ps : List (Option WitType)). list_all (λ p. payload_below c.args.id.0 p) ps ≡ true) (sym same) (variant_below types c.requires.down c.args.id.0 k (record { entry = d; stands = at; kind = is }) c.requires.cases) in
-    (omega arith, (within.0, (within.1, (c.requires.well, (c.requires.down, ((slice_get_within types c.args.id.0 d at), (below, (c.requires.side, c.requires.knows))))))))
+    let shape = variant_shape types c.requires.down c.args.id.0 k c.requires.here c.requires.cases ∙ ap (λ (ps : List (Option WitType)). cases (payloads_in (shapes types) ps)) (sym same) in
+    let tys = c.as_slice-tys.result.now in
+    let most = few_payloads types c.args.id.0 tys shape c.requires.serves in
+    let serves = payloads_served types c.args.id.0 tys shape c.requires.serves in
+    let own = ap is_alias is ∙ cases_no_alias 3 types k c.requires.cases in
+    let place = c.payload_place-place.ensures types d c.requires.knows at own in
+    let low = payloads_low types c.args.id (payloads_in (shapes types) tys) shape c.args.offset c.requires.low c.payload_place-place.result place.0 place.1 place.2 in
+    (omega arith, (within.0, (within.1, (c.requires.well, (c.requires.down, ((slice_get_within types c.args.id.0 d at), (below, (c.requires.side, (c.requires.knows, (most, (serves, low)))))))))))
+
+pub store_variant-payload_place-place-requires : goal.store_variant-payload_place-place-requires
+store_variant-payload_place-place-requires g t c =
+    let types = c.args.resolve.now.types in
+    let here = c.requires.here in
+    let k = c.args.kind.now in
+    let own = ap is_alias here.kind ∙ cases_no_alias 3 types k c.requires.cases in
+    let shape = variant_shape types c.requires.down c.args.id.0 k here c.requires.cases in
+    (types, c.requires.knows, payload_begins types c.args.id (payloads_in (shapes types) (payloads_of k)) shape c.args.offset c.requires.low here.entry here.stands own)
 
 pub store_variant-lower_by-requires : goal.store_variant-lower_by-requires
 store_variant-lower_by-requires g t c =
@@ -306,8 +386,8 @@ store_variant-returns g t c =
     let kind_is : d.kind ≡ k = c.requires.here.kind in
     let has = c.requires.cases in
     let e = subst (λ (i : Instruction). Emits m types i (c.args.value ∷ []) c.in_ok-_none._none c.store_cases.new.bindgen c.lower_by.new.bindgen) c.case_lowering-lower.ensures c.in_ok-_none.ensures in
-    let found = c.in_ok-place.ensures types d c.requires.knows at (ap is_alias kind_is ∙ cases_no_alias m.width types k has) in
-    stored_variant m sound types c.requires.down c.args.id d at k has kind_is c.args.realloc c.args.value c.args.address.now c.args.offset c.in_ok-place.place found c.as_slice-tys.result.now (c.as_slice-tys.ensures ∙ c.in_ok-payloads.ensures)
+    let found = c.payload_place-place.ensures types d c.requires.knows at (ap is_alias kind_is ∙ cases_no_alias m.width types k has) in
+    stored_variant m sound types c.requires.down c.args.id d at k has kind_is c.args.realloc c.args.value c.args.address.now c.args.offset c.payload_place-place.result found c.as_slice-tys.result.now (c.as_slice-tys.ensures ∙ c.in_ok-payloads.ensures)
     c.in_ok-_none._none _ _ _ c.in_ok-store_cases.ensures.stores c.in_ok-store_cases.ensures.sends e
 
 pub store_cases-loop-i-init : goal.store_cases-loop-i-init
@@ -321,10 +401,11 @@ store_cases-store_case-requires g t c κs within =
     let types = c.args.resolve.now.types in
     let short : c.loop-i.i < length c.args.payloads.now = omega (arith, c.loop-i-test.true) in
     let below = payload_low c.args.id.0 c.args.payloads.now c.requires.below c.loop-i.i None short in
-    let most : length c.args.payloads.now ≤ 2 ^ 31 = omega (arith, c.if-count-gt-MOST_CASES.false) in
+    let serves = payload_served types c.args.payloads.now c.loop-i.i None c.requires.serves short in
+    let low = payload_ends (shapes types) c.args.payloads.now c.loop-i.i None c.args.place c.requires.low short in
     let side = side_resumed m _ _ c.args.realloc c.loop-i.invariant.resumes c.requires.side in
     let knows = c.loop-i.invariant.resumes.knows types c.requires.knows in
-    (omega arith, (within.0, (within.1, (c.requires.well, (c.requires.down, (c.requires.within, (below, (short, (most, (side, knows))))))))))
+    (omega arith, (within.0, (within.1, (c.requires.well, (c.requires.down, (c.requires.within, (below, (short, (c.requires.most, (side, (knows, (serves, low))))))))))))
 
 pub store_cases-loop-i-preserved : goal.store_cases-loop-i-preserved
 store_cases-loop-i-preserved g t c =
@@ -367,7 +448,10 @@ store_case-returns-in_ok-store_bare-in-None g t c =
 pub store_case-store_payload-requires : goal.store_case-store_payload-requires
 store_case-store_payload-requires g t c κs within =
     let below = payload_type_low c.args.id.0 c.in-Some.ty (subst (λ (p : Option WitType). payload_below c.args.id.0 p ≡ true) c.in-Some.is c.requires.below) in
-    (omega arith, (within.0, (within.1, (c.requires.well, (c.requires.down, (c.requires.within, (below, (c.requires.few, (c.requires.most, (c.requires.side, c.requires.knows))))))))))
+    let ss = shapes c.args.resolve.now.types in
+    let serves = subst (λ (p : Option WitType). Serves (payload_in ss p)) c.in-Some.is c.requires.serves in
+    let low = subst (λ (p : Option WitType). EndsLow (payload_in ss p) c.args.place) c.in-Some.is c.requires.low in
+    (omega arith, (within.0, (within.1, (c.requires.well, (c.requires.down, (c.requires.within, (below, (c.requires.few, (c.requires.most, (c.requires.side, (c.requires.knows, (serves, low))))))))))))
 
 pub store_case-returns-in_ok-store_payload-in-Some : goal.store_case-returns-in_ok-store_payload-in-Some
 store_case-returns-in_ok-store_payload-in-Some g t c =
@@ -408,7 +492,7 @@ store_payload-store_type-requires g t c κs within =
     let below = type_below_table c.args.id.0 (length types) c.args.ty c.requires.below c.requires.within in
     let side = side_later m _ _ c.args.realloc stored.grows (side_later m _ _ c.args.realloc tag.2.adds.grows (side_later m _ _ c.args.realloc name.adds.grows (side_opened m _ _ c.args.realloc opens c.requires.side))) in
     let knows = stored.grows.knows types (tag.2.adds.grows.knows types (name.adds.grows.knows types (opens.lasts.knows types c.requires.knows))) in
-    (omega (arith, low), (within.0, (within.1, (c.requires.well, (c.requires.down, (below, (side, knows)))))))
+    (omega (arith, low), (within.0, (within.1, (c.requires.well, (c.requires.down, (below, (side, (knows, (c.requires.serves, c.requires.low)))))))))
 
 pub store_payload-returns : goal.store_payload-returns
 store_payload-returns g t c =

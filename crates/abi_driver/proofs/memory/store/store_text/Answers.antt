@@ -9,7 +9,7 @@ use Rattle.abi_bindgen.proofs.SendSteps.{sends_as, sends_three}
 use Rattle.abi_driver.proofs.memory.store.store_text.Goals as goal
 
 pub lower_by-requires : goal.lower_by-requires
-lower_by-requires g c = record { operands = refl; suits = c.requires }
+lower_by-requires g c = record { operands = refl; suits = c.requires.side }
 
 pub bounds-as_slice-0 : goal.bounds-as_slice-0
 bounds-as_slice-0 g c = omega (arith, ap length c.as_slice.ensures, c.in_ok-words.ensures.results)
@@ -30,10 +30,10 @@ returns g c =
     let types = c.args.resolve.now.types in
     let flat = text_lowers m sound types c.args.realloc _ _ c.args.value c.in_ok-words.words c.in_ok-words.ensures in
     let pair = two_words c.in_ok-words.words c.as_slice.result.now c.as_slice-2.result.now c.index-as_slice-0.result c.index-as_slice-1.result c.in_ok-place.place c.in_ok-length.length c.in_ok-words.ensures.results c.as_slice.ensures c.as_slice-2.ensures c.index-as_slice-0.is c.index-as_slice-1.is c.in_ok-place.ensures c.in_ok-length.ensures in
-    let behind = c.in_ok-behind.behind in
-    let code = store_text_code types c.args.offset c.args.realloc ∙ ap (λ o. sends (StringLower c.args.realloc) ∷ sends (LengthStore o) ∷ sends (PointerStore c.args.offset) ∷ []) (sym c.in_ok-behind.ensures) in
+    let behind = c.behind_pointer-behind.result in
+    let code = store_text_code types c.args.offset c.args.realloc ∙ ap (λ o. sends (StringLower c.args.realloc) ∷ sends (LengthStore o) ∷ sends (PointerStore c.args.offset) ∷ []) (sym c.behind_pointer-behind.ensures) in
     let steps = sends_three m types (StringLower c.args.realloc) (LengthStore behind) (PointerStore c.args.offset) _ _ _ _ _ _ _ _ _ _ c.in_ok-words.ensures c.in_ok-store_word.ensures c.in_ok-store_word-2.ensures in
     record {
-      stores = text_stores m sound types c.args.realloc _ _ _ _ c.args.value c.in_ok-place.place c.in_ok-length.length c.args.address.now c.in_ok-words.words c.args.offset behind (behind_at c.args.offset behind _ c.in_ok-behind.ensures) pair flat c.in_ok-store_word.ensures c.in_ok-store_word-2.ensures;
+      stores = text_stores m sound types c.args.realloc _ _ _ _ c.args.value c.in_ok-place.place c.in_ok-length.length c.args.address.now c.in_ok-words.words c.args.offset behind (behind_at c.args.offset behind _ c.behind_pointer-behind.ensures) pair flat c.in_ok-store_word.ensures c.in_ok-store_word-2.ensures;
       sends = sends_as m types _ _ _ _ code steps;
     }

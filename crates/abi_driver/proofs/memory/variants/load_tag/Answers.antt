@@ -10,6 +10,6 @@ load_word-requires g c =
     let may = makeable_number_load g.B.Bindgen.meaning c.args.resolve.now c.args.offset c.tag_load-load.result c.args.bindgen.now c.args.address.now (discriminant_grain c.args.cases) c.tag_load-load.ensures in
     record { sendable = may.sendable; makes = may.makes }
 
-pub returns-clause-loads : goal.returns-clause-loads
-returns-clause-loads g c =
+pub returns : goal.returns
+returns g c =
     subst (λ (i : Instruction). Emits g.B.Bindgen.meaning c.args.resolve.now.types i (c.args.address.now ∷ []) (c.in_ok-tag.tag ∷ []) c.args.bindgen.now c.load_word.new.bindgen) c.tag_load-load.ensures c.in_ok-tag.ensures

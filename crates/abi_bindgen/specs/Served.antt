@@ -1,0 +1,47 @@
+-- Which types the driver makes code for so far.
+use Rattle.std.specs.Prelude.{◌≡◌, ◌≤◌, ◌^◌, false, List, Option, None, Some}
+use Rattle.wit_model.specs.declared.function.Function.{Function}
+use Rattle.wit_model.specs.declared.types.TypeDef.{TypeDef}
+use Rattle.wrapper_meaning.specs.Kinds.{have_list}
+use Rattle.wrapper_meaning.specs.Shape.{Shape, Shapes, param_shapes, result_shape}
+use Rattle.wrapper_meaning.specs.Shape.Shape.{scalar, text, fields, tuple, cases, flags}
+use Rattle.wrapper_meaning.specs.Shape.Shapes.{none, more}
+use Rattle.abi_bindgen.specs.Parts.{count}
+
+-- scalars, texts and flags; records and tuples of such; variants, enums, options and results of such, each of whose cases has a number that a
+-- word of 32 bits keeps without its sign
+abbrev mutual
+  pub Serves : Shape → Type 0
+  Serves (scalar s) = Unit {0}
+  Serves text = Unit {0}
+  Serves (fields ts) = ServesAll ts
+  Serves (tuple ts) = ServesAll ts
+  Serves (cases ts) = (count ts ≤ 2 ^ 31) × ServesAll ts
+  Serves (flags n) = Unit {0}
+  Serves _ = ⊥
+
+  pub ServesAll : Shapes → Type 0
+  ServesAll none = Unit {0}
+  ServesAll (more t ts) = Serves t × ServesAll ts
+
+-- a result, where there is one
+abbrev pub ServesResult : Option Shape → Type 0
+ServesResult None = Unit {0}
+ServesResult (Some t) = Serves t
+
+-- the types of a function
+pub record ServesFunction (types : List TypeDef) (f : Function) : Type 0 where
+  pub params : ServesAll (param_shapes types f)
+  pub result : ServesResult (result_shape types f)
+
+-- no case of it may have a text, a list or a map: so far blocks that words name are freed of such alone
+abbrev mutual
+  pub IsFreedByWords : Shape → Type 0
+  IsFreedByWords (fields ts) = AreFreedByWords ts
+  IsFreedByWords (tuple ts) = AreFreedByWords ts
+  IsFreedByWords (cases ts) = have_list ts ≡ false
+  IsFreedByWords _ = Unit {0}
+
+  pub AreFreedByWords : Shapes → Type 0
+  AreFreedByWords none = Unit {0}
+  AreFreedByWords (more t ts) = IsFreedByWords t × AreFreedByWords ts
