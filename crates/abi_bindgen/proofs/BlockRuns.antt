@@ -12,10 +12,10 @@ use Rattle.abi_bindgen.specs.Account.{Done, Follows, Got, Outcome, Peer, Stopped
 use Rattle.abi_bindgen.specs.Blocks.{AreFinished, Finishes, IsOfWord, Pushes, Runs, StopsAlike, brought, names, owned_datum}
 use Rattle.abi_bindgen.specs.CaseBlocks.{AddsBlocks, GivesWords}
 use Rattle.abi_bindgen.specs.Instructions.{AddsCode}
-use Rattle.abi_bindgen.specs.Laws.{Adds, After, At, Does, Facts, Grows, Quiet, Sound, core_data, ofs}
+use Rattle.abi_bindgen.specs.Laws.{Adds, After, At, Does, Facts, Grows, Quiet, Sound, StaysUncalled, core_data, ofs}
 use Rattle.abi_bindgen.specs.Leaves.{way}
 use Rattle.abi_bindgen.specs.Meaning.{Bound, Ended, Meaning, word}
-use Rattle.abi_bindgen.proofs.BlockSteps.{block_quiet, one_block_more, same_code, same_opened, same_slot}
+use Rattle.abi_bindgen.proofs.BlockSteps.{block_quiet, block_uncalled, one_block_more, same_code, same_opened, same_slot}
 use Rattle.abi_bindgen.proofs.Runs.{stops_same}
 
 -- 1. Places of blocks
@@ -83,6 +83,7 @@ module _ {Self Operand : Type 0} (m : Meaning Self Operand) where
   pub no_blocks : (a : Self) → AddsBlocks m [] [] a a
   no_blocks a = record {
     grows = grows_none a;
+    uncalled = λ u. u;
     code = refl;
     asked = refl;
     blocks = refl;
@@ -93,6 +94,7 @@ module _ {Self Operand : Type 0} (m : Meaning Self Operand) where
   pub blocks_both : (xs ys : List m.Block) (ks ls : List ℕ) (a b c : Self) → AddsBlocks m xs ks a b → AddsBlocks m ys ls b c → AddsBlocks m (xs ++ ys) (ks ++ ls) a c
   blocks_both xs ys ks ls a b c g h = record {
     grows = grows_alike a b c g.code g.grows h.grows;
+    uncalled = λ u. h.uncalled (g.uncalled u);
     code = h.code ∙ g.code;
     asked = h.asked ∙ g.asked;
     blocks = h.blocks ∙ ap (λ bs. reverse ys ++ bs) g.blocks ∙ sym (append_assoc (reverse ys) (reverse xs) (m.blocks a)) ∙ ap (λ bs. bs ++ m.blocks a) (sym (reverse-append xs ys));
@@ -100,15 +102,16 @@ module _ {Self Operand : Type 0} (m : Meaning Self Operand) where
     finished = finished_both c ks ls xs ys g.many (finished_later b c ks xs h.grows.serves g.finished) h.finished;
   }
 
-  pub code_grows : (ks : List ℕ) (a b : Self) → AddsCode m false ks a b → Grows m a b × Quiet m a b
-  code_grows [] a b h = (h.grows, h.quiet)
+  pub code_grows : (ks : List ℕ) (a b : Self) → AddsCode m false ks a b → Grows m a b × Quiet m a b × StaysUncalled m a b
+  code_grows [] a b h = (h.grows, h.quiet, h.uncalled)
   code_grows (k ∷ ks) a b h = h
 
   -- the blocks, and then code that uses them up
-  pub blocks_used : (xs : List m.Block) (ks : List ℕ) (a b c : Self) → AddsBlocks m xs ks a b → Grows m b c → Quiet m b c → m.asked c ≡ m.asked b → m.blocks c ≡ drop (length ks) (m.blocks b) → Adds m a c
-  blocks_used xs ks a b c g grows quiet asked blocks = record {
+  pub blocks_used : (xs : List m.Block) (ks : List ℕ) (a b c : Self) → AddsBlocks m xs ks a b → Grows m b c → Quiet m b c → StaysUncalled m b c → m.asked c ≡ m.asked b → m.blocks c ≡ drop (length ks) (m.blocks b) → Adds m a c
+  blocks_used xs ks a b c g grows quiet uncalled asked blocks = record {
     grows = grows_alike a b c g.code g.grows grows;
     quiet = λ w f s v. quiet w f s v ∙ ap (λ code. (account_in m.account (m.does w f code s)).calls) g.code;
+    uncalled = λ u. uncalled (g.uncalled u);
     asked = asked ∙ g.asked;
     blocks = blocks ∙ ap (drop (length ks)) g.blocks ∙ drop_front (reverse xs) (m.blocks a) (length ks) (sym (length-reverse xs ∙ g.many));
   }
@@ -145,6 +148,7 @@ module _ {Self Operand : Type 0} (m : Meaning Self Operand) (sound : Sound m) (a
       opened = same_opened m sound a b c d os open_block adds close_block;
       known = λ w facts s k. close_block.lasts.known w facts s (adds.grows.known w facts s (open_block.lasts.known w facts s k));
     };
+    uncalled = block_uncalled m sound a b c d os open_block adds close_block;
     code = same_code m sound a b c d os open_block adds close_block;
     asked = close_block.lasts.asked ∙ adds.asked ∙ open_block.lasts.asked;
     blocks = one_block_more m sound a b c d os open_block adds close_block;

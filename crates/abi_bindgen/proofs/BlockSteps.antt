@@ -3,7 +3,7 @@ use Rattle.std.proofs.Common.{◌≡◌, List, ◌∷◌, sym, ap, ◌∙◌}
 use Rattle.wrapper_meaning.proofs.Lists.{first_or, later}
 use Rattle.abi_bindgen.specs.Account.{Account, account_in}
 use Rattle.abi_bindgen.specs.Blocks.{Finishes, IsQuiet, Pushes}
-use Rattle.abi_bindgen.specs.Laws.{Adds, Sound}
+use Rattle.abi_bindgen.specs.Laws.{Adds, Sound, StaysUncalled}
 use Rattle.abi_bindgen.specs.Meaning.{Meaning}
 
 module _ {Self Operand : Type 0} (m : Meaning Self Operand) (sound : Sound m) (a b c d : Self) (os : List Operand) (opens : Pushes m a b) (adds : Adds m b c) (closes : Finishes m os c d) where
@@ -21,6 +21,9 @@ module _ {Self Operand : Type 0} (m : Meaning Self Operand) (sound : Sound m) (a
 
   pub one_block_more : m.blocks d ≡ closes.block ∷ m.blocks a
   one_block_more = closes.blocks ∙ ap (λ bs. closes.block ∷ bs) (adds.blocks ∙ opens.blocks)
+
+  pub block_uncalled : StaysUncalled m a d
+  block_uncalled u = closes.lasts.uncalled (adds.uncalled (opens.lasts.uncalled u))
 
   pub block_quiet : IsQuiet m d closes.block
   block_quiet w p with s serves =

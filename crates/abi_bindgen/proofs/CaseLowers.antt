@@ -286,7 +286,7 @@ module _ {Self Operand : Type 0} (m : Meaning Self Operand) (sound : Sound m) (r
     all_adds =
         let g = code_grows m ks b c code in
         let same : length ks ≡ length block_counts = many ∙ sym (length-replicate (count ts) (suc (length (slots (layouts ts))))) in
-        blocks_used m blocks.bodies block_counts a b c blocks.adds g.0 g.1 asked (used ∙ ap (λ n. drop n (m.blocks b)) same)
+        blocks_used m blocks.bodies block_counts a b c blocks.adds g.0 g.1 g.2 asked (used ∙ ap (λ n. drop n (m.blocks b)) same)
 
     bodies_are : arms m (count ts) (m.blocks b) ≡ blocks.bodies
     bodies_are =

@@ -1,6 +1,6 @@
 -- Steps that pass values open and close their blocks in pairs, and call nothing.
-use Rattle.std.proofs.Common.{◌≡◌, ℕ, zero, suc, Bool, true, false, not, ◌&&◌, if◌then◌else◌, List, [], ◌∷◌, ◌++◌, length, map, reverse, Option, None, Some, refl, sym, ap, ap₂, ◌∙◌, subst}
-use Rattle.std.specs.Prelude.{IfSome, option_to_list, pos, slice_index_or, take, drop}
+use Rattle.std.proofs.Common.{◌≡◌, ℕ, zero, suc, ◌+◌, Bool, true, false, not, ◌&&◌, if◌then◌else◌, List, [], ◌∷◌, ◌++◌, length, map, reverse, Option, None, Some, refl, sym, ap, ap₂, ◌∙◌}
+use Rattle.std.specs.Prelude.{IfSome, pos, slice_index_or, take, drop}
 use Rattle.std.specs.List.{AllByRecursion, list_all}
 use Rattle.std.proofs.lemmas.Bool.{and_parts, not-true}
 use Rattle.std.proofs.lemmas.List.{reverse-append}
@@ -13,18 +13,18 @@ use Rattle.wit_model.specs.declared.types.TypeDefKind.TheVariants as kind
 use Rattle.wit_model.specs.declared.types.WitType.{WitType}
 use Rattle.wit_model.specs.declared.types.WitType.TheVariants as wit
 use Rattle.wit_model.specs.declared.wasm_type.WasmType.{WasmType}
-use Rattle.wit_layout.specs.Tree.{record_of, tree_at}
+use Rattle.wit_layout.specs.Tree.{record_of, tree_at, tree_of}
+use Rattle.wrapper_meaning.specs.Kinds.{has_list}
 use Rattle.wrapper_meaning.specs.Represents.{are_indirect, is_indirect}
-use Rattle.wrapper_meaning.specs.Shape.{shape_of}
+use Rattle.wrapper_meaning.specs.Shape.{shape_at, shape_of}
 use Rattle.wrapper_meaning.specs.Shape.Shape.{fields}
 use Rattle.abi_bindgen.specs.declared.instruction.Instruction.{Instruction}
-use Rattle.abi_bindgen.specs.declared.instruction.Instruction.TheVariants.{EnumLift, EnumLower, FlagsLift, FlagsLower, GetArg, I32Const, LengthLoad, LengthStore, PointerLoad, PointerStore, RecordLift, RecordLower, StringLift, StringLower, TupleLift, TupleLower, VariantPayloadName}
-use Rattle.abi_bindgen.specs.Blocks.{Finishes, Pushes}
+use Rattle.abi_bindgen.specs.declared.instruction.Instruction.TheVariants.{EnumLift, EnumLower, FlagsLift, FlagsLower, GetArg, GuestDeallocateVariant, I32Const, RecordLift, RecordLower, Return, TupleLift, TupleLower, VariantPayloadName}
 use Rattle.abi_bindgen.specs.Calls.{is_call}
 use Rattle.abi_bindgen.specs.Cases.{payloads_of}
-use Rattle.abi_bindgen.specs.Code.{all_at, ask_for, at_payload, at_places, at_words, beyond, by_case, cast_code, each, each_case, in_blocks, in_turn, lift_case, lift_cases, lift_code, lift_kind, lift_leaf, load_cases, load_code, load_kind, load_leaf, lower_arguments, lower_case, lower_cases, lower_code, lower_kind, lower_leaf, made, made_behind, made_for, made_in, members_of, one_pointer, pass_code, payload_place, payload_words, place_in, point_code, read_code, sent, shared_slots, store_arguments, store_case, store_cases, store_code, store_kind, store_leaf, word_place, zero_code}
+use Rattle.abi_bindgen.specs.Code.{ask_for, at_payload, at_words, beyond, by_case, cast_code, each, each_case, free_cases, free_code, free_kind, free_leaf, get_arguments, give_code, in_blocks, in_turn, lift_arguments, lift_case, lift_cases, lift_code, lift_kind, lift_leaf, load_arguments, load_cases, load_code, load_kind, load_leaf, lower_arguments, lower_case, lower_cases, lower_code, lower_kind, lower_leaf, made, made_behind, made_for, made_in, members_of, pass_code, payload_place, payload_words, place_in, point_code, post_return_code, read_code, sent, shared_slots, store_arguments, store_case, store_cases, store_code, store_kind, store_leaf, take_code, take_record_code, word_place, zero_code}
 use Rattle.abi_bindgen.specs.Frees.{nowhere}
-use Rattle.abi_bindgen.specs.Instructions.{AddsCode, block_results, case_lifting, case_lowering, has_cases, lifting, lowering, shapes_of}
+use Rattle.abi_bindgen.specs.Instructions.{AddsCode, block_results, case_lifting, case_lowering, lifting, lowering, shapes_of}
 use Rattle.abi_bindgen.specs.Meaning.{Meaning}
 use Rattle.abi_bindgen.specs.NumberTouches.{number_load, number_store, flags_load, flags_store, tag_load, tag_store}
 use Rattle.abi_bindgen.specs.ScalarTouches.{scalar_load, scalar_store}
@@ -32,7 +32,7 @@ use Rattle.abi_bindgen.specs.Sends.{Sends}
 use Rattle.abi_bindgen.specs.Sent.{Sent, asks, closes, opens, sends, sends_casts, sends_zeros}
 use Rattle.abi_bindgen.specs.SlotCasts.{casts_between, is_no_cast}
 use Rattle.wit_layout.specs.Extent.{discriminant_grain, flags_extent}
-use Rattle.wit_layout.specs.Flat.{words_of_flags}
+use Rattle.wit_layout.specs.Flat.{flatten_type, words_of_flags}
 
 -- 1. Blocks in pairs
 
@@ -52,7 +52,7 @@ pub record IsInner (steps : List Sent) : Type 0 where
   pub nested : (n : ℕ) → depth steps n ≡ n
   pub quiet : list_all is_quiet steps ≡ true
 
-depth_both : (steps later : List Sent) (n : ℕ) → depth (steps ++ later) n ≡ depth later (depth steps n)
+pub depth_both : (steps later : List Sent) (n : ℕ) → depth (steps ++ later) n ≡ depth later (depth steps n)
 depth_both [] later n = refl
 depth_both (opens ∷ steps) later n = depth_both steps later (suc n)
 depth_both (closes ∷ steps) later zero = depth_both steps later zero
@@ -395,7 +395,61 @@ pub read_inner : (types : List TypeDef) (r : Option WitType) → IsInner (read_c
 read_inner types None = none_inner
 read_inner types (Some ty) = if_inner (is_indirect (Some (shape_of types ty))) (load_code types ty nowhere) (lift_code types ty) (load_inner types ty nowhere) (lift_inner types ty)
 
--- 6. Steps that were sent
+-- 6. Those of an export
+
+arguments_inner : (types : List TypeDef) (first : ℕ) (tys : List WitType) → IsInner (lift_arguments types first tys)
+arguments_inner types first [] = none_inner
+arguments_inner types first (ty ∷ tys) =
+    let words = flatten_type (tree_of types ty) in
+    both_inner (get_arguments first words ++ lift_code types ty) (lift_arguments types (first + length words) tys)
+    (both_inner (get_arguments first words) (lift_code types ty) (every_inner (λ n word. sends (GetArg n) ∷ []) (λ n word. one_inner (GetArg n) refl) first words) (lift_inner types ty))
+    (arguments_inner types (first + length words) tys)
+
+pub take_inner : (types : List TypeDef) (tys : List WitType) → IsInner (take_code types tys)
+take_inner types tys =
+    if_inner (are_indirect (shapes_of types tys)) (take_record_code types tys) (lift_arguments types 0 tys)
+    (then_inner (GetArg 0) _ refl
+    (both_inner (load_arguments types tys) _
+    (every_inner (λ n ty. load_code types ty (place_in (record_of types tys) n)) (λ n ty. load_inner types ty (place_in (record_of types tys) n)) 0 tys) (record { nested = λ n. refl; quiet = refl })))
+    (arguments_inner types 0 tys)
+
+pub give_inner : (types : List TypeDef) (r : Option WitType) → IsInner (give_code types r)
+give_inner types None = none_inner
+give_inner types (Some ty) =
+    if_inner (is_indirect (Some (shape_of types ty))) (ask_for (shape_of types ty) ++ store_code types true ty nowhere) (lower_code types true ty)
+    (both_inner (ask_for (shape_of types ty)) (store_code types true ty nowhere) (record { nested = λ n. refl; quiet = refl }) (store_inner types true ty nowhere)) (lower_inner types true ty)
+
+-- 7. The blocks of a result are freed
+
+free_leaf_inner : (ty : WitType) → IsInnerAt (free_leaf ty)
+free_leaf_inner wit.String offset = record { nested = λ n. refl; quiet = refl }
+free_leaf_inner _ offset = none_inner
+
+free_cases_inner : (types : List TypeDef) (id : ℕ) (k : TypeDefKind) (parts : List (ArchitectureSize → List Sent)) → AllByRecursion IsInnerAt parts → IsInnerAt (free_cases types id (by_case (payloads_of k) parts))
+free_cases_inner types id k parts all offset =
+    let place = beyond offset (payload_place (tree_at types id)) in
+    let cases : List (Option (ArchitectureSize → List Sent)) = by_case (payloads_of k) parts in
+    let blocks = blocks_inner (λ o. IfSome o IsInnerAt) (λ n part. at_payload place part) (λ n part h. at_payload_inner place part h) 0 cases (by_case_all IsInnerAt (payloads_of k) parts all) in
+    if_inner (has_list (shape_at types id)) _ []
+    (then_inner (tag_load (length cases) offset) _ (number_loads (discriminant_grain (length cases)) offset) (both_inner _ _ blocks (one_inner (GuestDeallocateVariant (length cases)) refl)))
+    none_inner
+
+free_kind_inner : (types : List TypeDef) (id : ℕ) (k : TypeDefKind) (parts : List (ArchitectureSize → List Sent)) → AllByRecursion IsInnerAt parts → IsInnerAt (free_kind types id k parts)
+free_kind_inner types id (kind.Alias ty) parts all offset = at_parts (λ n. offset) parts all
+free_kind_inner types id (kind.Variant members) parts all offset = free_cases_inner types id (kind.Variant members) parts all offset
+free_kind_inner types id (kind.Option ty) parts all offset = free_cases_inner types id (kind.Option ty) parts all offset
+free_kind_inner types id (kind.Result ok err) parts all offset = free_cases_inner types id (kind.Result ok err) parts all offset
+free_kind_inner types id _ parts all offset = at_parts (λ n. beyond offset (place_in (tree_at types id) n)) parts all
+
+free_inner : (types : List TypeDef) (ty : WitType) → IsInnerAt (free_code types ty)
+unfolding free_code
+free_inner types ty offset = made_is IsInnerAt free_leaf (free_kind types) free_leaf_inner (free_kind_inner types) types ty offset
+
+pub post_return_inner : (types : List TypeDef) (r : Option WitType) → IsInner (post_return_code types r)
+post_return_inner types None = one_inner (Return 0) refl
+post_return_inner types (Some ty) = then_inner (GetArg 0) _ refl (both_inner (free_code types ty nowhere) (sends (Return 0) ∷ []) (free_inner types ty nowhere) (one_inner (Return 0) refl))
+
+-- 8. Steps that were sent
 
 module _ {Self Operand : Type 0} (m : Meaning Self Operand) where
   adds_opened : (call : Bool) (used : List ℕ) (a b : Self) → AddsCode m call used a b → m.opened b ≡ m.opened a

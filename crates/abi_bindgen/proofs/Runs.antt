@@ -56,7 +56,7 @@ module _ {Self Operand : Type 0} (m : Meaning Self Operand) where
   grows_same a = record { serves = λ w h. h; more = λ w h. (w, h); stops = λ w f s h. stops_same m.account (m.does w f (m.code a) s); imports = refl; exports = refl; arguments = refl; knows = λ types h. h; target = λ f. refl; crosses = λ w f. refl; opened = refl; known = λ w facts s h. h }
 
   pub adds_same : (a : Self) → Adds m a a
-  adds_same a = record { grows = grows_same a; quiet = λ w f s h. refl; asked = refl; blocks = refl }
+  adds_same a = record { grows = grows_same a; quiet = λ w f s h. refl; uncalled = λ u. u; asked = refl; blocks = refl }
 
   pub grows_both : (a b c : Self) → Grows m a b → Grows m b c → Quiet m b c → Grows m a c
   grows_both a b c g h quiet = record {
@@ -77,7 +77,7 @@ module _ {Self Operand : Type 0} (m : Meaning Self Operand) where
   quiet_both a b c g h quiet w f s v = quiet w f s v ∙ g w f s (h.serves w v)
 
   pub adds_both : (a b c : Self) → Adds m a b → Adds m b c → Adds m a c
-  adds_both a b c g h = record { grows = grows_both a b c g.grows h.grows h.quiet; quiet = quiet_both a b c g.quiet h.grows h.quiet; asked = h.asked ∙ g.asked; blocks = h.blocks ∙ g.blocks }
+  adds_both a b c g h = record { grows = grows_both a b c g.grows h.grows h.quiet; quiet = quiet_both a b c g.quiet h.grows h.quiet; uncalled = λ u. h.uncalled (g.uncalled u); asked = h.asked ∙ g.asked; blocks = h.blocks ∙ g.blocks }
 
   -- 4. Facts of lists
 

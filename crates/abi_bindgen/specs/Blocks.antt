@@ -70,6 +70,7 @@ module _ {Self Operand : Type 0} (m : Meaning Self Operand) where
     pub known : (w : m.World) (facts : Facts m) (s : m.State) → m.denotes w old facts s → m.denotes w new facts s
     pub asked : m.asked new ≡ m.asked old
     pub returned : m.returned new ≡ m.returned old
+    pub uncalled : m.uncalled old → m.uncalled new
 
   -- the code is suspended, and that of the block is empty. What locals own is out of its reach: in the state in which it is entered its
   -- names are bound, its locals own no more than their items, and facts of words hold that hold outside and were there when it was opened

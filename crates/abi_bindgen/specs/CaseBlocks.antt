@@ -15,7 +15,7 @@ use Rattle.wrapper_meaning.specs.Words.{AreWords}
 use Rattle.abi_bindgen.specs.Account.{Follows, Peer, addresses, releasing}
 use Rattle.abi_bindgen.specs.Blocks.{AreFinished, Gives}
 use Rattle.abi_bindgen.specs.Cases.{IsPayload, PayloadStands, with_case}
-use Rattle.abi_bindgen.specs.Laws.{Data, Facts, Grows, core_data, ofs}
+use Rattle.abi_bindgen.specs.Laws.{Data, Facts, Grows, StaysUncalled, core_data, ofs}
 use Rattle.abi_bindgen.specs.Leaves.{way}
 use Rattle.abi_bindgen.specs.Lifts.{MayTake, took}
 use Rattle.abi_bindgen.specs.Meaning.{Bound, Meaning, with_nothing}
@@ -25,6 +25,7 @@ module _ {Self Operand : Type 0} (m : Meaning Self Operand) where
   -- blocks were finished in this order, with so many results each, and the code goes on as before
   pub record AddsBlocks (bodies : List m.Block) (ks : List ℕ) (old new : Self) : Type 0 where
     pub grows : Grows m old new
+    pub uncalled : StaysUncalled m old new
     pub code : m.code new ≡ m.code old
     pub asked : m.asked new ≡ m.asked old
     pub blocks : m.blocks new ≡ reverse bodies ++ m.blocks old

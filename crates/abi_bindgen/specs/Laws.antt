@@ -88,10 +88,17 @@ module _ {Self Operand : Type 0} (m : Meaning Self Operand) where
     pub unasked : m.asked b ≡ []
     pub closed : m.opened b ≡ []
     pub unfinished : m.blocks b ≡ []
+    pub uncalled : m.uncalled b
     pub world : m.World
     pub serves : m.serves world b
     pub start : (w : m.World) (ds : Data) (acc : Account m.Item) (at : Option ℕ) → m.serves w b → IsCount (m.arguments b) (length ds) → AreLent ds → MayStand (m.imports b) (m.area w) at acc.heap → acc.taken ≡ option_to_list at → acc.guarded ≡ []
         → (s : m.State) × (m.account s ≡ acc) × (m.owns s ≡ option_to_list at) × (m.area_at s ≡ at) × m.denotes w b (args 0 ds) s
+
+  -- a `Bindgen` of which a function's code may be asked for: no block is open, the area was not asked for, and no method was called
+  pub record IsFresh (b : Self) : Type 0 where
+    pub closed : m.opened b ≡ []
+    pub unasked : m.asked b ≡ []
+    pub uncalled : m.uncalled b
 
   -- 2. Code is added
 
@@ -114,10 +121,15 @@ module _ {Self Operand : Type 0} (m : Meaning Self Operand) where
   abbrev pub Quiet : (old new : Self) → Type 0
   Quiet old new = (w : m.World) (f : Peer m.Item) (s : m.State) → m.serves w new → (account_in m.account (m.does w f (m.code new) s)).calls ≡ (account_in m.account (m.does w f (m.code old) s)).calls
 
+  -- where no method was called before, none is called still
+  abbrev pub StaysUncalled : (old new : Self) → Type 0
+  StaysUncalled old new = m.uncalled old → m.uncalled new
+
   -- code was added that makes no call, does not ask for the area, and leaves the finished blocks
   pub record Adds (old new : Self) : Type 0 where
     pub grows : Grows old new
     pub quiet : Quiet old new
+    pub uncalled : StaysUncalled old new
     pub asked : m.asked new ≡ m.asked old
     pub blocks : m.blocks new ≡ m.blocks old
 

@@ -91,6 +91,8 @@ pub record Meaning (Self Operand : Type 0) : Type 1 where
   pub knows : Self → List TypeDef → Type 0
   -- how many arguments the code has; none where there is no bound
   pub arguments : Self → Option ℕ
+  -- no method was called in the code so far
+  pub uncalled : Self → Type 0
   -- what a call of a function goes to
   pub target : Self → Function → Target
   -- how values cross the call of a function of the code's own side

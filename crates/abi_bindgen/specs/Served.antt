@@ -1,6 +1,7 @@
 -- Which types the driver makes code for so far.
 use Rattle.std.specs.Prelude.{◌≡◌, ◌≤◌, ◌^◌, false, List, Option, None, Some}
 use Rattle.wit_model.specs.declared.function.Function.{Function}
+use Rattle.wit_model.specs.declared.function.FunctionKind.TheVariants.{Freestanding}
 use Rattle.wit_model.specs.declared.types.TypeDef.{TypeDef}
 use Rattle.wrapper_meaning.specs.Kinds.{have_list}
 use Rattle.wrapper_meaning.specs.Shape.{Shape, Shapes, param_shapes, result_shape}
@@ -29,8 +30,9 @@ abbrev pub ServesResult : Option Shape → Type 0
 ServesResult None = Unit {0}
 ServesResult (Some t) = Serves t
 
--- the types of a function
+-- the types of a function, which is of no resource, and answers at once
 pub record ServesFunction (types : List TypeDef) (f : Function) : Type 0 where
+  pub plain : f.kind ≡ Freestanding
   pub params : ServesAll (param_shapes types f)
   pub result : ServesResult (result_shape types f)
 

@@ -1,6 +1,7 @@
 //! What makes code of instructions, and its laws.
 
-ghost use Rattle.std.specs.Prelude.{◌≡◌, List, [], OnOk, IfOk};
+ghost use Rattle.std.specs.Prelude.{◌≡◌, ◌<◌, ◌^◌, List, [], OnOk, IfOk};
+ghost use Rattle.wit_model.specs.Size.{bytes_at};
 ghost use Rattle.wit_model.specs.declared.types.TypeDef.{TypeDef};
 ghost use Rattle.wit_layout.specs.Filled.{IsFilledFor};
 ghost use Rattle.abi_bindgen.specs.Blocks.{Finishes, IsOpen, Pushes};
@@ -60,18 +61,21 @@ pub trait Bindgen {
     fn push_block(&mut self) -> Result<(), OutOfMemory>
         ensures { OnOk result (Pushes meaning self.old self.new) };
 
-    /// Closes the innermost open block with these results, and resumes the code before it. The operands are used up. Where no block is
-    /// open, nothing is promised.
+    /// Closes the innermost open block with these results, and resumes the code before it. The operands are used up.
     fn finish_block(&mut self, operands: &mut List<Self::Operand>) -> Result<(), OutOfMemory>
-        ensures { IsOpen meaning self.old → OnOk result (Finishes meaning operands.old self.old self.new) };
+        requires open { IsOpen meaning self.old }
+        ensures { OnOk result (Finishes meaning operands.old self.old self.new) };
 
     /// What denotes the address of the return area, which has this size and alignment at least. The area of an import stands when its
-    /// code begins, and that of an export is placed when it is first asked for.
+    /// code begins, and that of an export is placed when it is first asked for. No block is open, and the size is less than 2^31 bytes where
+    /// pointers have 8.
     fn return_pointer(
         &mut self,
         size: ArchitectureSize,
         align: Alignment,
     ) -> Result<Self::Operand, OutOfMemory>
+        requires closed { meaning.opened self.old ≡ [] }
+        requires small { bytes_at size 8 < 2 ^ 31 }
         requires aligned { IsAlignment align }
         ensures { IfOk result (λ o. PointsTo meaning (record { size = size; align = align }) o self.old self.new) };
 

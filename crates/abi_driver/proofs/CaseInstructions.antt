@@ -2,6 +2,7 @@
 use Rattle.std.proofs.Common.{◌≡◌, ℕ, Bool, false, true, List, [], ◌∷◌, length, map, drop, replicate, Option, None, Some, option_to_list, refl, sym, ap, ◌∙◌, subst}
 use Rattle.std.proofs.lemmas.List.{length-map, length-replicate, length-reverse}
 use Rattle.wit_model.specs.TypeOrder.{GoesDown}
+use Rattle.wit_model.specs.WellFormed.{IsWellFormed}
 use Rattle.wit_model.specs.declared.name.TypeId.{TypeId}
 use Rattle.wit_model.specs.declared.resolve.Resolve.{Resolve}
 use Rattle.wit_model.specs.declared.types.TypeDef.{TypeDef}
@@ -14,7 +15,7 @@ use Rattle.abi_bindgen.specs.Arms.{serves_none, serves_others}
 use Rattle.abi_bindgen.specs.Cases.{LiftsCase, LowersCase, case_shapes, payload_counts, payloads_at, payloads_of}
 use Rattle.abi_bindgen.specs.HasList.{IsKindOf}
 use Rattle.abi_bindgen.specs.Instructions.{AddsCode, Emits, HasBlocks, IsSendable, case_lifting, case_lowering, has_cases}
-use Rattle.abi_bindgen.specs.Laws.{Grows, Quiet}
+use Rattle.abi_bindgen.specs.Laws.{Grows, Quiet, StaysUncalled}
 use Rattle.abi_bindgen.specs.Meaning.{Meaning}
 use Rattle.abi_bindgen.specs.Parts.{count}
 use Rattle.abi_bindgen.proofs.Payloads.{count_payloads, payloads_here}
@@ -33,6 +34,7 @@ module _ {Self Operand : Type 0} (m : Meaning Self Operand) where
   pub record LowersBy (ts : Shapes) (o : Operand) (os : List Operand) (old new : Self) : Type 0 where
     pub grows : Grows m old new
     pub quiet : Quiet m old new
+    pub uncalled : StaysUncalled m old new
     pub blocks : m.blocks new ≡ drop (count ts) (m.blocks old)
     pub asked : m.asked new ≡ m.asked old
     pub row : LowersCase m ts (o ∷ []) os old new
@@ -41,6 +43,7 @@ module _ {Self Operand : Type 0} (m : Meaning Self Operand) where
   pub record LiftsBy (last_serves : Form → Bool) (ts : Shapes) (o r : Operand) (old new : Self) : Type 0 where
     pub grows : Grows m old new
     pub quiet : Quiet m old new
+    pub uncalled : StaysUncalled m old new
     pub blocks : m.blocks new ≡ drop (count ts) (m.blocks old)
     pub asked : m.asked new ≡ m.asked old
     pub row : LiftsCase m last_serves ts (o ∷ []) (r ∷ []) old new
@@ -51,7 +54,7 @@ module _ {Self Operand : Type 0} (m : Meaning Self Operand) where
     lowers_variant used payloads o os a b same are adds gone asked row =
         let many : length used ≡ count (payloads_in (shapes types) payloads) = are ∙ ap length same ∙ sym (count_payloads (shapes types) payloads) in
         let more = uses_blocks m used a b adds in
-        record { grows = more.0; quiet = more.1; blocks = gone ∙ ap (λ j. drop j (m.blocks a)) many; asked = asked; row = subst (λ ps. LowersCase m (payloads_in (shapes types) ps) (o ∷ []) os a b) same row }
+        record { grows = more.0; quiet = more.1; uncalled = more.2; blocks = gone ∙ ap (λ j. drop j (m.blocks a)) many; asked = asked; row = subst (λ ps. LowersCase m (payloads_in (shapes types) ps) (o ∷ []) os a b) same row }
 
     pub lowers_by : (k : TypeDefKind) (n : ℕ) (o : Operand) (os : List Operand) (a b : Self) → IsKindOf types id.0 k → has_cases k ≡ true → Emits m types (case_lowering k id n) (o ∷ []) os a b → LowersBy (payloads_in (shapes types) (payloads_of k)) o os a b
     lowers_by (kind.Variant members) n o os a b is has e =
@@ -75,7 +78,7 @@ module _ {Self Operand : Type 0} (m : Meaning Self Operand) where
         let used = payload_counts (payloads_at types id.0) in
         let many : length used ≡ count (payloads_in (shapes types) payloads) = counts_many (payloads_at types id.0) ∙ ap length same ∙ sym (count_payloads (shapes types) payloads) in
         let more = uses_blocks m used a b adds in
-        record { grows = more.0; quiet = more.1; blocks = gone ∙ ap (λ j. drop j (m.blocks a)) many; asked = asked; row = subst (λ ps. LiftsCase m last_serves (payloads_in (shapes types) ps) (o ∷ []) (r ∷ []) a b) same row }
+        record { grows = more.0; quiet = more.1; uncalled = more.2; blocks = gone ∙ ap (λ j. drop j (m.blocks a)) many; asked = asked; row = subst (λ ps. LiftsCase m last_serves (payloads_in (shapes types) ps) (o ∷ []) (r ∷ []) a b) same row }
 
     pub lifts_by : (k : TypeDefKind) (o r : Operand) (a b : Self) → IsKindOf types id.0 k → has_cases k ≡ true → Emits m types (case_lifting k id) (o ∷ []) (r ∷ []) a b → LiftsBy (case_serves k) (payloads_in (shapes types) (payloads_of k)) o r a b
     lifts_by (kind.Variant members) o r a b is has e = lifts_variant serves_others (map (λ c. c.ty) members) o r a b (payloads_here types down id.0 (kind.Variant members) is has) e.adds e.blocks e.asked e.row
@@ -83,18 +86,18 @@ module _ {Self Operand : Type 0} (m : Meaning Self Operand) where
     lifts_by (kind.Result ok err) o r a b is has e = lifts_variant serves_none (ok ∷ err ∷ []) o r a b (payloads_here types down id.0 (kind.Result ok err) is has) e.adds e.blocks e.asked e.row
     lifts_by _ o r a b is has e = absurd (let h = has in cc)
 
-  module _ (r : Resolve) (down : GoesDown r.types) (id : TypeId) (o : Operand) (b : Self) where
+  module _ (r : Resolve) (well : IsWellFormed r) (down : GoesDown r.types) (id : TypeId) (o : Operand) (b : Self) where
     pub lifting_sendable : (k : TypeDefKind) → IsKindOf r.types id.0 k → has_cases k ≡ true → HasBlocks m (payload_counts (payloads_of k)) b → IsSendable m r (case_lifting k id) (o ∷ []) b
     lifting_sendable (kind.Variant members) is has there =
-        record { operands = refl; suits = (members, is, subst (λ ps. HasBlocks m (payload_counts ps) b) (sym (payloads_here r.types down id.0 (kind.Variant members) is has)) there) }
-    lifting_sendable (kind.Option ty) is has there = record { operands = refl; suits = (ty, is, subst (λ ps. HasBlocks m (payload_counts ps) b) (sym (payloads_here r.types down id.0 (kind.Option ty) is has)) there) }
+        record { built = refl; operands = refl; suits = (members, is, subst (λ ps. HasBlocks m (payload_counts ps) b) (sym (payloads_here r.types down id.0 (kind.Variant members) is has)) there, well) }
+    lifting_sendable (kind.Option ty) is has there = record { built = refl; operands = refl; suits = (ty, is, subst (λ ps. HasBlocks m (payload_counts ps) b) (sym (payloads_here r.types down id.0 (kind.Option ty) is has)) there, well) }
     lifting_sendable (kind.Result ok err) is has there =
-        record { operands = refl; suits = (ok, err, is, subst (λ ps. HasBlocks m (payload_counts ps) b) (sym (payloads_here r.types down id.0 (kind.Result ok err) is has)) there) }
+        record { built = refl; operands = refl; suits = (ok, err, is, subst (λ ps. HasBlocks m (payload_counts ps) b) (sym (payloads_here r.types down id.0 (kind.Result ok err) is has)) there, well) }
     lifting_sendable _ is has there = absurd (let h = has in cc)
 
     pub lowering_sendable : (k : TypeDefKind) (n : ℕ) → IsKindOf r.types id.0 k → has_cases k ≡ true → HasBlocks m (replicate (length (payloads_of k)) n) b → IsSendable m r (case_lowering k id n) (o ∷ []) b
     lowering_sendable (kind.Variant members) n is has there =
-        record { operands = refl; suits = (members, is, subst (λ ps. HasBlocks m (replicate (length ps) n) b) (sym (payloads_here r.types down id.0 (kind.Variant members) is has)) there) }
-    lowering_sendable (kind.Option ty) n is has there = record { operands = refl; suits = (ty, is, there) }
-    lowering_sendable (kind.Result ok err) n is has there = record { operands = refl; suits = (ok, err, is, there) }
+        record { built = refl; operands = refl; suits = (members, is, subst (λ ps. HasBlocks m (replicate (length ps) n) b) (sym (payloads_here r.types down id.0 (kind.Variant members) is has)) there, well) }
+    lowering_sendable (kind.Option ty) n is has there = record { built = refl; operands = refl; suits = (ty, is, there, well) }
+    lowering_sendable (kind.Result ok err) n is has there = record { built = refl; operands = refl; suits = (ok, err, is, there, well) }
     lowering_sendable _ n is has there = absurd (let h = has in cc)

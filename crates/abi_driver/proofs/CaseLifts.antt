@@ -213,7 +213,7 @@ module _ {Self Operand : Type 0} (m : Meaning Self Operand) (sound : Sound m) wh
     all_adds : Adds m a c
     all_adds =
         let g = code_grows m used b c code in
-        blocks_used m blocks.bodies ks a b c blocks.adds g.0 g.1 asked (left ∙ ap (λ n. drop n (m.blocks b)) (same ∙ sym many))
+        blocks_used m blocks.bodies ks a b c blocks.adds g.0 g.1 g.2 asked (left ∙ ap (λ n. drop n (m.blocks b)) (same ∙ sym many))
 
     bodies_are : arms m (count ts) (m.blocks b) ≡ blocks.bodies
     bodies_are =

@@ -8,7 +8,7 @@ use Rattle.abi_bindgen.specs.Arms.{arms}
 use Rattle.abi_bindgen.specs.Blocks.{AreFinished, Finishes, Gives, IsOfWord, IsOpen, IsQuiet, Pushes, names, owned_datum}
 use Rattle.abi_driver.specs.FinishedBlocks.{AddsBlock, AddsBlocks, AreQuiet, Resumes}
 use Rattle.abi_bindgen.specs.Instructions.{AddsCode, IsSide}
-use Rattle.abi_bindgen.specs.Laws.{Adds, At, Data, Facts, Grows, Quiet, Sound, ofs}
+use Rattle.abi_bindgen.specs.Laws.{Adds, At, Data, Facts, Grows, Quiet, Sound, StaysUncalled, ofs}
 use Rattle.abi_bindgen.specs.Meaning.{Bound, Meaning}
 use Rattle.abi_bindgen.proofs.BlockSteps.{block_quiet, one_block_more, same_code, same_opened, same_slot}
 
@@ -42,7 +42,7 @@ module _ {Self Operand : Type 0} (m : Meaning Self Operand) where
   -- 2. One after another
 
   pub resumes_same : (a : Self) → Resumes m a a
-  resumes_same a = record { serves = λ w h. h; more = λ w h. (w, h); code = refl; opened = refl; imports = refl; exports = refl; arguments = refl; knows = λ types h. h; target = λ f. refl; crosses = λ w f. refl; known = λ w facts s h. h; asked = refl }
+  resumes_same a = record { serves = λ w h. h; more = λ w h. (w, h); code = refl; opened = refl; imports = refl; exports = refl; arguments = refl; knows = λ types h. h; target = λ f. refl; crosses = λ w f. refl; known = λ w facts s h. h; asked = refl; uncalled = λ h. h }
 
   pub resumes_both : (a b c : Self) → Resumes m a b → Resumes m b c → Resumes m a c
   resumes_both a b c g h = record {
@@ -58,6 +58,7 @@ module _ {Self Operand : Type 0} (m : Meaning Self Operand) where
     crosses = λ w fn. h.crosses w fn ∙ g.crosses w fn;
     known = λ w facts s k. h.known w facts s (g.known w facts s k);
     asked = h.asked ∙ g.asked;
+    uncalled = λ k. h.uncalled (g.uncalled k);
   }
 
   -- the side stays
@@ -124,14 +125,14 @@ module _ {Self Operand : Type 0} (m : Meaning Self Operand) where
   pub are_finished : (ks : List ℕ) (bodies : List m.Block) (a b : Self) → AddsBlocks m ks bodies a b → AreFinished m b (reverse ks) (m.blocks b)
   are_finished ks bodies a b adds = subst (λ bs. AreFinished m b (reverse ks) bs) (sym adds.blocks) (finished_front b (reverse ks) (reverse bodies) (m.blocks a) (finished_back b ks bodies adds.quiet))
 
-  -- code that uses some blocks up, or none, grows and makes no call
-  pub uses_blocks : (used : List ℕ) (a b : Self) → AddsCode m false used a b → Grows m a b × Quiet m a b
-  uses_blocks [] a b h = (h.grows, h.quiet)
+  -- code that uses some blocks up, or none, grows and makes no call, and calls no method
+  pub uses_blocks : (used : List ℕ) (a b : Self) → AddsCode m false used a b → Grows m a b × Quiet m a b × StaysUncalled m a b
+  uses_blocks [] a b h = (h.grows, h.quiet, h.uncalled)
   uses_blocks (k ∷ used) a b h = h
 
   -- code that uses up the blocks that were added leaves those before them
-  pub resumes_then : (a b c : Self) → Resumes m a b → Grows m b c → Quiet m b c → m.asked c ≡ m.asked b → m.blocks c ≡ m.blocks a → Adds m a c
-  resumes_then a b c r g quiet asked blocks = record {
+  pub resumes_then : (a b c : Self) → Resumes m a b → Grows m b c → Quiet m b c → StaysUncalled m b c → m.asked c ≡ m.asked b → m.blocks c ≡ m.blocks a → Adds m a c
+  resumes_then a b c r g quiet stays asked blocks = record {
     grows = record {
       serves = λ w s. r.serves w (g.serves w s);
       more = λ w s. let x = r.more w s in g.more x.0 x.1;
@@ -146,6 +147,7 @@ module _ {Self Operand : Type 0} (m : Meaning Self Operand) where
       known = λ w facts s k. g.known w facts s (r.known w facts s k);
     };
     quiet = λ w f s serves. quiet w f s serves ∙ ap (λ code. (account_in m.account (m.does w f code s)).calls) r.code;
+    uncalled = λ k. stays (r.uncalled k);
     asked = asked ∙ r.asked;
     blocks = blocks;
   }
@@ -188,6 +190,7 @@ module _ {Self Operand : Type 0} (m : Meaning Self Operand) (sound : Sound m) (a
         crosses = λ w fn. closes.lasts.crosses w fn ∙ adds.grows.crosses w fn ∙ opens.lasts.crosses w fn;
         known = λ w facts s k. closes.lasts.known w facts s (adds.grows.known w facts s (opens.lasts.known w facts s k));
         asked = closes.lasts.asked ∙ adds.asked ∙ opens.lasts.asked;
+        uncalled = λ k. closes.lasts.uncalled (adds.uncalled (opens.lasts.uncalled k));
       };
       blocks = one_block_more m sound a b c d os opens adds closes;
       results = closes.results;

@@ -2,6 +2,7 @@
 use Rattle.std.proofs.Common.{◌≡◌, ℕ, zero, suc, ◌+◌, ◌<◌, ◌≤◌, Bool, true, false, List, [], ◌∷◌, ◌++◌, length, map, reverse, drop, get_or, Option, None, Some, refl, sym, ap, ◌∙◌, subst, arith}
 use Rattle.std.proofs.lemmas.List.{append-nil, drop_all, drop_more, length-append, length-reverse, nil_from_length}
 use Rattle.wit_model.specs.TypeOrder.{GoesDown}
+use Rattle.wit_model.specs.WellFormed.{IsWellFormed}
 use Rattle.wit_model.specs.declared.name.TypeId.{TypeId}
 use Rattle.wit_model.specs.declared.resolve.Resolve.{Resolve}
 use Rattle.wit_model.specs.declared.types.TypeDef.{TypeDef}
@@ -55,11 +56,11 @@ module _ {Self Operand : Type 0} (m : Meaning Self Operand) (sound : Sound m) (r
         subst (λ ps. AreFinished m b (payload_counts ps) (m.blocks b)) (sym (payloads_here r.types down id.0 k here h))
         (subst (AreFinished m b (reverse ks)) (sym blocks.adds.blocks) (finished_back m b ks blocks.bodies (m.blocks a) blocks.adds.many blocks.adds.finished))
 
-    pub variant_liftable : (k : TypeDefKind) (o : Operand) → IsKindOf r.types id.0 k → has_cases k ≡ true → LiftsCases m (Cases_of k) (result_counts (payloads_of k)) (shared_slots r.types (payloads_of k)) os a b → IsSendable m r (case_lifting k id) (o ∷ []) b
-    variant_liftable (kind.Variant members) o here h blocks = record { operands = refl; suits = (members, here, finished_all (kind.Variant members) here h blocks) }
-    variant_liftable (kind.Option ty) o here h blocks = record { operands = refl; suits = (ty, here, finished_all (kind.Option ty) here h blocks) }
-    variant_liftable (kind.Result ok err) o here h blocks = record { operands = refl; suits = (ok, err, here, finished_all (kind.Result ok err) here h blocks) }
-    variant_liftable _ o here h blocks = absurd cc
+    pub variant_liftable : IsWellFormed r → (k : TypeDefKind) (o : Operand) → IsKindOf r.types id.0 k → has_cases k ≡ true → LiftsCases m (Cases_of k) (result_counts (payloads_of k)) (shared_slots r.types (payloads_of k)) os a b → IsSendable m r (case_lifting k id) (o ∷ []) b
+    variant_liftable well (kind.Variant members) o here h blocks = record { built = refl; operands = refl; suits = (members, here, finished_all (kind.Variant members) here h blocks, well) }
+    variant_liftable well (kind.Option ty) o here h blocks = record { built = refl; operands = refl; suits = (ty, here, finished_all (kind.Option ty) here h blocks, well) }
+    variant_liftable well (kind.Result ok err) o here h blocks = record { built = refl; operands = refl; suits = (ok, err, here, finished_all (kind.Result ok err) here h blocks, well) }
+    variant_liftable well _ o here h blocks = absurd cc
 
     module _ (k : TypeDefKind) (c : Self) (o x : Operand) (here : IsKindOf r.types id.0 k) (has : has_cases k ≡ true) (enough : length os ≡ length (shared_slots r.types (payloads_of k)))
         (blocks : LiftsCases m (Cases_of k) (result_counts (payloads_of k)) (shared_slots r.types (payloads_of k)) os a b) where

@@ -69,6 +69,10 @@ type_small sizes types filled wit.ErrorContext below = omega arith
 pub starts_low : (sizes : SizeAlign) (types : List TypeDef) → IsFilledFor sizes types → (ty : WitType) → type_below (length types) ty ≡ true → EndsLow (shape_of types ty) (record { bytes = 0; pointers = 0 })
 starts_low sizes types filled ty below = omega (arith, type_small sizes types filled ty below, ap (elem_size 3) (layout_is_tree types ty))
 
+-- and its size is small
+pub small_size : (sizes : SizeAlign) (types : List TypeDef) → IsFilledFor sizes types → (ty : WitType) → type_below (length types) ty ≡ true → (size : ArchitectureSize) → IsPairOf size (λ w. elem_size w (tree_of types ty)) → bytes_at size 8 < 2 ^ 31
+small_size sizes types filled ty below size pair = omega (arith, type_small sizes types filled ty below, pair.1)
+
 -- the layouts tell that a record is small
 pub small_fits : (sizes : SizeAlign) (tys : List WitType) → have_sizes sizes tys ≡ true → (types : List TypeDef) → IsFilledFor sizes types → IsSmallRecord types tys → fits_in_record sizes tys ≡ true
 small_fits sizes tys has types filled small = fits_filled sizes tys has types filled ∙ lt-ltb (elem_size 3 (record_of types tys)) (2 ^ 31) small

@@ -16,7 +16,7 @@ use Rattle.wrapper_data.specs.declared.block.Block.{Block}
 use Rattle.wrapper_meaning.specs.Direction.{give}
 use Rattle.wrapper_meaning.specs.InMemory.{CaseHolds}
 use Rattle.wrapper_meaning.specs.InRange.{IsListedCase}
-use Rattle.wrapper_meaning.specs.Kinds.{has_list}
+use Rattle.wrapper_meaning.specs.Kinds.{has_list, have_list}
 use Rattle.wrapper_meaning.proofs.NoLists.{memory_has_no_blocks}
 use Rattle.abi_bindgen.specs.Cases.{payloads_of}
 use Rattle.abi_bindgen.specs.Code.{at_payload, beyond, free_code, in_blocks}
@@ -28,6 +28,7 @@ use Rattle.wrapper_data.specs.declared.word.Word.TheVariants as core
 use Rattle.wrapper_meaning.specs.Layout.{layout, layouts}
 use Rattle.wrapper_meaning.specs.Shape.{Shapes, payloads_in, shape_at, shapes}
 use Rattle.wrapper_meaning.specs.Shape.Shape.{cases}
+use Rattle.wrapper_meaning.specs.Shape.Shapes.{none, more}
 use Rattle.wrapper_meaning.specs.Value.{Case, case_number}
 use Rattle.abi_bindgen.specs.declared.instruction.Instruction.TheVariants.{GuestDeallocateVariant}
 use Rattle.abi_bindgen.specs.Account.{Account, Done, Peer}
@@ -36,7 +37,7 @@ use Rattle.abi_driver.specs.FinishedBlocks.{HasPayloadRoom}
 use Rattle.abi_driver.specs.FreedCases.{FreesCases}
 use Rattle.abi_bindgen.specs.Frees.{Frees, FreesInMemory, MayFree, by_freeing}
 use Rattle.abi_bindgen.specs.Instructions.{Emits, has_cases}
-use Rattle.abi_bindgen.specs.Laws.{At, Facts, Grows, Quiet, Sound}
+use Rattle.abi_bindgen.specs.Laws.{At, Facts, Grows, Quiet, Sound, StaysUncalled}
 use Rattle.abi_bindgen.specs.Meaning.{Meaning, of, word}
 use Rattle.abi_bindgen.specs.NumberTouches.{number_load, tag_load}
 use Rattle.abi_bindgen.specs.Parts.{count}
@@ -57,11 +58,16 @@ use Rattle.abi_bindgen.proofs.SendSteps.{sends_as, sends_both, sends_one, sends_
 use Rattle.abi_driver.proofs.NumberWords.{number_load_adds, number_loaded}
 use Rattle.abi_bindgen.proofs.Runs.{adds_both}
 
+-- where a value may have a list, there is a case
+pub some_case : (ts : Shapes) → have_list ts ≡ true → 0 < count ts
+some_case none h = absurd (let e = h in cc)
+some_case (more t ts) h = omega arith
+
 module _ {Self Operand : Type 0} (m : Meaning Self Operand) (sound : Sound m) (types : List TypeDef) (n : ℕ) (ts : Shapes) (b c d : Self) (address x : Operand) (place : ArchitectureSize) (is : count ts ≡ n) (frees : FreesCases m ts address place b c) (arm : Emits m types (GuestDeallocateVariant n) (x ∷ []) [] c d) where
   many : length {A = ℕ} (replicate (count ts) 0) ≡ n
   many = length-replicate (count ts) 0 ∙ is
 
-  uses : Grows m c d × Quiet m c d
+  uses : Grows m c d × Quiet m c d × StaysUncalled m c d
   uses = uses_blocks m (replicate n 0) c d arm.adds
 
   -- behind the tag: the blocks of all cases, and then the instruction that runs the one of the tag's case
@@ -108,7 +114,7 @@ module _ {Self Operand : Type 0} (m : Meaning Self Operand) (sound : Sound m) (t
   variant_frees a offset most behind e =
       let gone = arm.blocks ∙ ap (λ j. drop j (m.blocks c)) (length-replicate n 0) ∙ arms_gone m (replicate (count ts) 0) frees.bodies b c n frees.adds many in
       record {
-        adds = adds_both m a b d (number_load_adds m sound types (discriminant_grain (tree_count (layouts ts))) offset (address ∷ []) (x ∷ []) a b e) (resumes_then m b c d frees.adds.resumes uses.0 uses.1 arm.asked gone);
+        adds = adds_both m a b d (number_load_adds m sound types (discriminant_grain (tree_count (layouts ts))) offset (address ∷ []) (x ∷ []) a b e) (resumes_then m b c d frees.adds.resumes uses.0 uses.1 uses.2 arm.asked gone);
         row = λ v own listed w f others s0 s q k blk at room holds may.
             let g = discriminant_grain (tree_count (layouts ts)) in
             let i = case_number ts v in
@@ -135,9 +141,9 @@ module _ {Self Operand : Type 0} (m : Meaning Self Operand) (sound : Sound m) (t
 module _ {Self Operand : Type 0} (m : Meaning Self Operand) (sound : Sound m) (types : List TypeDef) (down : GoesDown types) (id : TypeId) (entry : TypeDef) (at : slice_get types id.0 ≡ Some entry) (k : TypeDefKind) (has : has_cases k ≡ true) (kind_is : entry.kind ≡ k) where
   -- a type of the table with cases is freed, and as its code says: where no value has blocks, by no code
   pub freed_none : has_list (shape_at types id.0) ≡ false → (a : Self) (address : Operand) (offset : ArchitectureSize) → record { frees : FreesInMemory m (shape_at types id.0) address offset a a; sends : Sends m types (free_code types (wit.Id id) offset) a a }
-  freed_none none a address offset = record {
-    frees = alone_at m sound types (shape_at types id.0) (λ v b j own holds. memory_has_no_blocks m.width give (shape_at types id.0) v b j own none holds) a address offset;
-    sends = sends_as m types [] _ a a (free_none_code types down id entry at offset k kind_is has none) refl;
+  freed_none bare a address offset = record {
+    frees = alone_at m sound types (shape_at types id.0) (λ v b j own holds. memory_has_no_blocks m.width give (shape_at types id.0) v b j own bare holds) a address offset;
+    sends = sends_as m types [] _ a a (free_none_code types down id entry at offset k kind_is has bare) refl;
   }
 
   pub freed_variant : has_list (shape_at types id.0) ≡ true → (address x : Operand) (offset place : ArchitectureSize) → ((part : ArchitectureSize) × (place ≡ beyond offset part) × IsPairOf part (λ w. payload_offset w (tree_at types id.0)))

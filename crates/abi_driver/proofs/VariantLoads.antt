@@ -134,7 +134,7 @@ module _ {Self Operand : Type 0} (m : Meaning Self Operand) (sound : Sound m) wh
           → Emits m types (number_load (discriminant_grain (tree_count (layouts ts))) offset) (address ∷ []) (x ∷ []) a b → LiftsFromMemory m (cases ts) address offset r a d
       variant_loads most behind e = record {
         adds = adds_both m a b d (number_load_adds m sound types (discriminant_grain (tree_count (layouts ts))) offset (address ∷ []) (x ∷ []) a b e)
-            (resumes_then m b c d loads.adds.resumes lifts.grows lifts.quiet lifts.asked (lifts.blocks ∙ arms_gone m results loads.bodies b c (count ts) loads.adds many));
+            (resumes_then m b c d loads.adds.resumes lifts.grows lifts.quiet lifts.uncalled lifts.asked (lifts.blocks ∙ arms_gone m results loads.bodies b c (count ts) loads.adds many));
         row = λ v own listed w f others s0 s q k blk at room holds may.
             let g = discriminant_grain (tree_count (layouts ts)) in
             let n = case_number ts v in

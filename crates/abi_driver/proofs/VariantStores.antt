@@ -60,7 +60,7 @@ module _ {Self Operand : Type 0} (m : Meaning Self Operand) (sound : Sound m) wh
   pub variant_stores : (realloc : Bool) (ts : Shapes) (a b c : Self) (value address : Operand) (offset place : ArchitectureSize) → bytes_at place (2 ^ m.width) ≡ bytes_at offset (2 ^ m.width) + payload_offset m.width (layout (cases ts))
       → StoresCases m realloc (discriminant_grain (tree_count (layouts ts))) 0 ts address offset place a b → LowersBy m ts value [] b c → LowersToMemory m realloc (cases ts) value address offset a c
   variant_stores realloc ts a b c value address offset place behind stores lowers = record {
-    adds = resumes_then m a b c stores.adds.resumes lowers.grows lowers.quiet lowers.asked (lowers.blocks ∙ arms_gone m (replicate (count ts) 0) stores.bodies a b (count ts) stores.adds (length-replicate (count ts) 0));
+    adds = resumes_then m a b c stores.adds.resumes lowers.grows lowers.quiet lowers.uncalled lowers.asked (lowers.blocks ∙ arms_gone m (replicate (count ts) 0) stores.bodies a b (count ts) stores.adds (length-replicate (count ts) 0));
     row = λ heap v x own listed stands w f others s0 s q k blk left at room goes.
         let dir = way realloc heap in
         let n = case_number ts v in

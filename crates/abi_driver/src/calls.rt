@@ -9,6 +9,7 @@ ghost use Rattle.std.specs.Prelude.{◌≡◌, true, map, OnOk};
 ghost use Rattle.wit_model.specs.IndexRange.{function_in_range};
 ghost use Rattle.wit_model.specs.WellFormed.{IsWellFormed};
 ghost use Rattle.abi_bindgen.specs.Code.{call_code};
+ghost use Rattle.abi_bindgen.specs.Laws.{IsFresh};
 ghost use Rattle.abi_bindgen.specs.Sends.{Sends};
 ghost use Rattle.abi_bindgen.specs.Served.{ServesFunction};
 ghost use Rattle.abi_driver.specs.Low.{IsSmallRecord};
@@ -38,9 +39,11 @@ pub enum LiftLower {
 /// Of an export's code it is told what it does in a whole in which values of its parameters are passed to the method as they are: only
 /// the whole has the method.
 ///
-/// So far each parameter and the result is a scalar, a text, an enum or flags, or a record, a tuple, a variant, an option or a result of such,
-/// also through aliases; and a record of all parameters has at most 2^31 - 1 bytes where pointers have 8. The answer is `OutOfMemory` where
-/// there is no memory for the code, or for the operands.
+/// When it is asked for, no block is open, the area was not asked for, and no method was called in the code.
+///
+/// So far the function is of no resource and answers at once; each parameter and the result is a scalar, a text, an enum or flags, or a
+/// record, a tuple, a variant, an option or a result of such, also through aliases; and a record of all parameters has at most 2^31 - 1
+/// bytes where pointers have 8. The answer is `OutOfMemory` where there is no memory for the code, or for the operands.
 pub fn call<B: Bindgen>(
     alloc: Global,
     resolve: &Resolve,
@@ -56,6 +59,7 @@ pub fn call<B: Bindgen>(
     requires knows { B.meaning.knows bindgen.old resolve.now.types }
     requires serves { ServesFunction resolve.now.types func.now }
     requires small { IsSmallRecord resolve.now.types (map (λ p. p.ty) func.now.params) }
+    requires fresh { IsFresh B.meaning bindgen.old }
     requires arguments { HasArguments B.meaning resolve.now.types variant func.now bindgen.old }
     ensures calls { OnOk result (CallsFunction B.meaning resolve.now.types variant func.now bindgen.old bindgen.new) }
     ensures sends { OnOk result (Sends B.meaning resolve.now.types (call_code resolve.now.types variant func.entry) bindgen.old bindgen.new) }

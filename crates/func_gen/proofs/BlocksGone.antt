@@ -52,10 +52,13 @@ module _ (old mid new : FunctionBindgen) (n : ℕ) (used : List FinishedBlock) (
   pub quiet_used : law.Quiet func_meaning old new
   quiet_used = subst (λ b. law.Quiet func_meaning b new) uses.rest adds.quiet
 
+  pub uncalled_used : law.StaysUncalled func_meaning old new
+  uncalled_used = subst (λ (b : FunctionBindgen). law.StaysUncalled func_meaning (record b { finished = old.finished }) new) uses.rest (λ h. adds.uncalled (record { here = h.here; around = h.around }))
+
   -- an instruction that uses up at least one
   pub adds_used : (ks : List ℕ) → length ks ≡ n → (m : ℕ) → n ≡ suc m → AddsCode func_meaning false ks old new
   adds_used [] many m some = absurd (omega (arith, many, some))
-  adds_used (k ∷ ks) many m some = (grows_used, quiet_used)
+  adds_used (k ∷ ks) many m some = (grows_used, quiet_used, uncalled_used)
 
   pub blocks_left : func_meaning.blocks new ≡ drop n (func_meaning.blocks old)
   blocks_left =

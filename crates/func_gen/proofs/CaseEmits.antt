@@ -10,7 +10,7 @@ use Rattle.rust_tree.specs.declared.expr.Expr.{Expr}
 use Rattle.abi_bindgen.specs.declared.instruction.Instruction.TheVariants.{OptionLower, ResultLower, VariantLower}
 use Rattle.abi_bindgen.specs.Cases.{LowersCase, case_shapes, payloads_at}
 use Rattle.abi_bindgen.specs.Instructions.{AddsCode, Emits}
-use Rattle.abi_bindgen.specs.Laws.{Adds, Grows, Quiet}
+use Rattle.abi_bindgen.specs.Laws.{Adds, Grows, Quiet, StaysUncalled}
 use Rattle.func_gen.specs.declared.case_form.CaseForm.{CaseForm}
 use Rattle.func_gen.specs.declared.function_bindgen.FinishedBlock.{FinishedBlock}
 use Rattle.func_gen.specs.declared.function_bindgen.FunctionBindgen.{FunctionBindgen}
@@ -85,6 +85,9 @@ module _ (old new : FunctionBindgen) (forms : List CaseForm) (e : Expr) (n : ℕ
   code_quiet : Quiet func_meaning old new
   code_quiet = subst (λ (b : FunctionBindgen). Quiet func_meaning (record b { finished = old.finished }) new) l.uses.rest mid_adds.quiet
 
+  code_uncalled : StaysUncalled func_meaning old new
+  code_uncalled = subst (λ (b : FunctionBindgen). StaysUncalled func_meaning (record b { finished = old.finished }) new) l.uses.rest (λ h. mid_adds.uncalled (record { here = h.here; around = h.around }))
+
   pub blocks_gone : func_meaning.blocks new ≡ drop (length forms) (func_meaning.blocks old)
   blocks_gone =
       ap reverse l.adds.finished ∙ sym (drop-append_seam l.used (reverse l.mid.finished)) ∙ ap (λ k. drop k (l.used ++ reverse l.mid.finished)) l.uses.many ∙ ap (drop (length forms)) (sym l.uses.taken)
@@ -106,8 +109,8 @@ module _ (old new : FunctionBindgen) (forms : List CaseForm) (e : Expr) (n : ℕ
   }
 
   code_added : (used : List ℕ) → length used ≡ length forms → AddsCode func_meaning false used old new
-  code_added [] h = record { grows = code_grows; quiet = code_quiet; asked = same_asked; blocks = blocks_gone ∙ ap (λ k. drop k (func_meaning.blocks old)) (sym h) }
-  code_added (k ∷ used) h = (code_grows, code_quiet)
+  code_added [] h = record { grows = code_grows; quiet = code_quiet; uncalled = code_uncalled; asked = same_asked; blocks = blocks_gone ∙ ap (λ k. drop k (func_meaning.blocks old)) (sym h) }
+  code_added (k ∷ used) h = (code_grows, code_quiet, code_uncalled)
 
   formed : (types : List TypeDef) (ty : CasedType) → AreFormsOf types old.sites ty forms → MatchesCases types ty n (operand_of e ∷ []) (locals_of names) old new
   formed types ty are = record { forms = forms; are = are; operand = e; only = refl; names = names; lowers = l; results = refl }

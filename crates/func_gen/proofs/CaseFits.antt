@@ -1,5 +1,5 @@
 -- The forms of the cases of options and of results: they fit the payloads, and have the numbers of the cases.
-use Rattle.std.proofs.Common.{◌≡◌, ℕ, Bool, false, List, [], ◌∷◌, Option, None, Some, refl, sym, ap, ◌∙◌, subst}
+use Rattle.std.proofs.Common.{◌≡◌, ℕ, Bool, false, List, [], ◌∷◌, length, Option, None, Some, refl, sym, ap, ◌∙◌, subst}
 use Rattle.std.specs.Prelude.{codes}
 use Rattle.wit_model.specs.Bytes.{Bytes}
 use Rattle.wit_model.specs.declared.types.TypeDef.{TypeDef}
@@ -10,7 +10,7 @@ use Rattle.rust_tree.specs.declared.item.Item.{Item}
 use Rattle.rust_tree.specs.declared.path.Path.{Path}
 use Rattle.wrapper_meaning.specs.Shape.{is_nothing, payload_in, payloads_in, shape_of, shapes}
 use Rattle.wrapper_values.specs.Variants.{case_number, is_core_option, is_core_result, number_in_option, number_in_result}
-use Rattle.abi_bindgen.specs.Cases.{case_shapes, payloads_of, payloads_or}
+use Rattle.abi_bindgen.specs.Cases.{case_shapes, payloads_at, payloads_of, payloads_or}
 use Rattle.abi_bindgen.specs.HasList.{IsKindOf}
 use Rattle.func_gen.specs.declared.case_form.CaseForm.{CaseForm}
 use Rattle.func_gen.specs.declared.case_form.CaseForm.TheVariants as taken
@@ -37,6 +37,9 @@ option_fits types id forms o =
     subst (λ ts. FitForms ts forms) (sym (kind_shapes types id (kind.Option o.ty) o.kind))
     (subst (FitForms (payloads_in (shapes types) (None ∷ Some o.ty ∷ []))) (sym o.are) (tt, (full_fits (is_nothing (shape_of types o.ty)) (core_path (codes "option") (codes "Option") (codes "Some")) o.some, tt)))
 
+pub option_count : (types : List TypeDef) (id : ℕ) (forms : List CaseForm) → AreOptionForms types id forms → length (payloads_at types id) ≡ length forms
+option_count types id forms o = ap length (ap payloads_or o.kind.stands ∙ ap payloads_of o.kind.kind) ∙ ap length (sym o.are)
+
 -- 2. Results
 
 side_fits : (types : List TypeDef) (case : Bytes) (payload : Option WitType) → IsSome types payload → FitsForm (is_nothing (payload_in (shapes types) payload)) (side_form case payload)
@@ -60,3 +63,6 @@ pub result_fits : (types : List TypeDef) (id : ℕ) (forms : List CaseForm) → 
 result_fits types id forms r =
     subst (λ ts. FitForms ts forms) (sym (kind_shapes types id (kind.Result r.ok r.err) r.kind))
     (subst (FitForms (payloads_in (shapes types) (r.ok ∷ r.err ∷ []))) (sym r.are) (side_fits types (codes "Ok") r.ok r.ok_some, (side_fits types (codes "Err") r.err r.err_some, tt)))
+
+pub result_count : (types : List TypeDef) (id : ℕ) (forms : List CaseForm) → AreResultForms types id forms → length (payloads_at types id) ≡ length forms
+result_count types id forms r = ap length (ap payloads_or r.kind.stands ∙ ap payloads_of r.kind.kind) ∙ ap length (sym r.are)

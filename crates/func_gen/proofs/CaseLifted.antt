@@ -14,7 +14,7 @@ use Rattle.rust_tree.specs.declared.expr.Expr.{Expr}
 use Rattle.wrapper_values.specs.Enums.{is_enum}
 use Rattle.wrapper_values.specs.Setting.{Setting}
 use Rattle.abi_bindgen.specs.declared.instruction.Instruction.TheVariants.{OptionLift, ResultLift, VariantLift}
-use Rattle.abi_bindgen.specs.Cases.{payloads_at, payloads_of, payloads_or}
+use Rattle.abi_bindgen.specs.Cases.{payloads_at}
 use Rattle.abi_bindgen.specs.Instructions.{Emits}
 use Rattle.func_gen.specs.declared.case_form.CaseForm.{CaseForm}
 use Rattle.func_gen.specs.declared.function_bindgen.FunctionBindgen.{FunctionBindgen}
@@ -27,7 +27,7 @@ use Rattle.func_gen.specs.Meaning.{func_meaning, setting_for}
 use Rattle.func_gen.specs.Operand.{is_operand}
 use Rattle.func_gen.specs.PartForms.{locals_of}
 use Rattle.func_gen.specs.TypeSites.{AreDefined}
-use Rattle.func_gen.proofs.CaseFits.{option_numbers, result_numbers}
+use Rattle.func_gen.proofs.CaseFits.{option_count, option_numbers, result_count, result_numbers}
 use Rattle.func_gen.proofs.CaseNames.{variant_count, variant_no_enum, variant_numbers}
 use Rattle.func_gen.proofs.CasePaths.{AllCall, CallsCase, NamesType, are_cases, case_called, err_called, none_called, ok_called, some_called}
 use Rattle.func_gen.proofs.LiftedCaseRows.{AreCases}
@@ -77,12 +77,12 @@ module _ (w : Setting) (ty : Bytes) (other : is_enum w.items ty ≡ false) where
 module _ (types : List TypeDef) (id : TypeId) (old new : FunctionBindgen) (forms : List CaseForm) (e : Expr) (v : Bytes) (l : LiftsBy forms e v old new) (ok : is_operand e ≡ true) where
   pub option_made : AreOptionForms types id.0 forms → Emits func_meaning types (OptionLift id) (operand_of e ∷ []) (locals_of (v ∷ [])) old new
   option_made o =
-      option_lifted types id forms e v old new l ok 1 (ap length o.are) (ap length (ap payloads_or o.kind.stands ∙ ap payloads_of o.kind.kind) ∙ ap length (sym o.are))
+      option_lifted types id forms e v old new l ok 1 (ap length o.are) (option_count types id.0 forms o)
       (λ w p s. subst (AreCases (setting_for w p) 0) (sym o.are) (option_cases (setting_for w p))) o
 
   pub result_made : AreResultForms types id.0 forms → Emits func_meaning types (ResultLift id) (operand_of e ∷ []) (locals_of (v ∷ [])) old new
   result_made r =
-      result_lifted types id forms e v old new l ok 1 (ap length r.are) (ap length (ap payloads_or r.kind.stands ∙ ap payloads_of r.kind.kind) ∙ ap length (sym r.are))
+      result_lifted types id forms e v old new l ok 1 (ap length r.are) (result_count types id.0 forms r)
       (λ w p s. subst (AreCases (setting_for w p) 0) (sym r.are) (result_cases (setting_for w p) r.ok r.err)) r
 
 -- 3. Variants

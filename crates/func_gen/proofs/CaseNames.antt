@@ -175,3 +175,6 @@ module _ (types : List TypeDef) (sites : List (Option TypeSite)) (id : ℕ) (for
   pub variant_count : length (payloads_at types id) ≡ length forms
   variant_count =
       ap length (ap payloads_or f.kind.stands ∙ ap payloads_of f.kind.kind) ∙ length-map f.members (λ (c : Case). c.ty) ∙ sym (members_count f.name f.site.cases f.members f.many) ∙ ap length (sym f.are)
+
+  pub variant_low : length forms < 2 ^ 32
+  variant_low = let counted = ap length f.are ∙ members_count f.name f.site.cases f.members f.many in omega (arith, counted, f.low)

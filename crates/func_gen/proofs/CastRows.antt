@@ -347,7 +347,7 @@ module _ (old new : FunctionBindgen) (t : ℕ) (cs : List Bitcast) (os : List Ex
         ),
       )
 
-pub casts_row : (types : List TypeDef) (old new : FunctionBindgen) (t : ℕ) (cs : Bor (List Bitcast)) (os : List ExprOperand) → length os ≡ length cs.now → length cs.now < 2 ^ 32 → are_operands os ≡ true → Appends old new (stmts_from 0 cs.now (exprs_of os) t) [] → FreshAll old new (slots_from 0 cs.now t)
+pub casts_row : (types : List TypeDef) (old new : FunctionBindgen) (t : ℕ) (cs : Bor (List Bitcast)) (os : List ExprOperand) → length os ≡ length cs.now → length cs.now < 2 ^ 64 → are_operands os ≡ true → Appends old new (stmts_from 0 cs.now (exprs_of os) t) [] → FreshAll old new (slots_from 0 cs.now t)
     → Takes old.scope (λ k. slots_from 0 cs.now k) t new.scope → Emits func_meaning types (Bitcasts cs) os (map operand_of (casts_from 0 cs.now (exprs_of os) t)) old new
 casts_row types old new t cs os many small ok a fresh takes =
     let es = exprs_of os in
@@ -360,5 +360,5 @@ casts_row types old new t cs os many small ok a fresh takes =
       asked = a.asked;
       results = casts_many 0 t cs.now os many;
       form = form_by (sends (Bitcasts cs)) (record { gives = refl; calls = refl }) os old new rs (casts cs.now es) t refl takes a refl;
-      row = casts_words old new t cs.now os a fresh (omega (arith, small)) many;
+      row = casts_words old new t cs.now os a fresh small many;
     }

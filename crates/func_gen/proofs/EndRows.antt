@@ -60,7 +60,7 @@ module _ (os : List ExprOperand) (b : FunctionBindgen) where
 
   pub give_row : (types : List TypeDef) (n : ℕ) → length os ≡ n → Emits func_meaning types (Return n) os [] b (giving os b)
   give_row types n many = record {
-    adds = record { grows = giving_grows; quiet = λ w p s h. refl; asked = refl; blocks = refl };
+    adds = record { grows = giving_grows; quiet = λ w p s h. refl; uncalled = λ h. record { here = h.here; around = h.around }; asked = refl; blocks = refl };
     blocks = refl;
     returned = refl;
     asked = refl;

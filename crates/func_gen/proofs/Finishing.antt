@@ -144,6 +144,12 @@ module _ (os : List ExprOperand) (old new : FunctionBindgen) (a : Resumes os old
     known = known;
     asked = a.asked;
     returned = a.returned;
+    uncalled = λ h.
+        let codes = subst (AllByRecursion (λ (o : OpenBlock). o.code.call ≡ None)) a.closing.opened h.around in
+        record {
+          here = ap (λ (c : Code). c.call) a.closing.code ∙ (all_right (λ (o : OpenBlock). o.code.call ≡ None) new.opened (open_now ∷ []) codes).0;
+          around = all_left (λ (o : OpenBlock). o.code.call ≡ None) new.opened (open_now ∷ []) codes;
+        };
   }
 
   -- 3. Its run

@@ -6,6 +6,7 @@ pub mod ArmFollows
 pub mod ArmReach
 pub mod ArmResults
 pub mod BlocksGone
+pub mod BlocksThere
 pub mod BodyArea
 pub mod Buffers
 pub mod CallRows
@@ -24,13 +25,13 @@ pub mod CaseRows
 pub mod CaseValues
 pub mod CasesMade
 pub mod CastRows
+pub mod CastSteps
 pub mod CastWords
 pub mod CodeTexts
 pub mod ConstantRows
 pub mod Declared
 pub mod Emissions
 pub mod EndRows
-pub mod EntryShapes
 pub mod EnumRows
 pub mod Evaluated
 pub mod FieldOrder
@@ -69,9 +70,12 @@ pub mod NumberQuiet
 pub mod NumberRows
 pub mod NumberedArms
 pub mod Opening
+pub mod OperandLists
+pub mod OperandSteps
 pub mod PartNames
 pub mod PartRows
 pub mod PartsTaken
+pub mod PayloadsThere
 pub mod Placed
 pub mod Quiet
 pub mod RecordInstances
@@ -89,4 +93,5 @@ pub mod StoreRows
 pub mod TakenRow
 pub mod TextRows
 pub mod TupleRows
+pub mod WholeLemmas
 pub mod Writing

@@ -1,7 +1,6 @@
 -- What the lifting of a variant, an option or a result emits, and the freeing of a variant.
 use Rattle.std.proofs.Common.{◌≡◌, ◌++◌, ℕ, suc, false, true, List, [], ◌∷◌, drop, length, map, replicate, reverse, Option, refl, sym, ap, ◌∙◌}
-use Rattle.std.specs.Prelude.{option_to_list}
-use Rattle.std.proofs.lemmas.List.{length-map, length-replicate, length-reverse}
+use Rattle.std.proofs.lemmas.List.{length-replicate}
 use Rattle.wit_model.specs.Bytes.{Bytes}
 use Rattle.wit_model.specs.declared.name.TypeId.{TypeId}
 use Rattle.wit_model.specs.declared.types.TypeDef.{TypeDef}
@@ -20,7 +19,7 @@ use Rattle.wrapper_run.specs.Run.{run_stmts}
 use Rattle.wrapper_run.proofs.StepLemmas.{Quiet}
 use Rattle.abi_bindgen.specs.declared.instruction.Instruction.TheVariants.{GuestDeallocateVariant, OptionLift, ResultLift, VariantLift}
 use Rattle.abi_bindgen.specs.Account.{Peer}
-use Rattle.abi_bindgen.specs.Cases.{case_shapes, payload_counts, payloads_at, result_counts}
+use Rattle.abi_bindgen.specs.Cases.{case_shapes, payload_counts, payloads_at}
 use Rattle.abi_bindgen.specs.Instructions.{Emits}
 use Rattle.abi_bindgen.specs.Parts.{count}
 use Rattle.func_gen.specs.declared.case_form.CaseForm.{CaseForm}
@@ -39,6 +38,7 @@ use Rattle.func_gen.specs.Scope.{is_used}
 use Rattle.func_gen.specs.Still.{StillOf}
 use Rattle.func_gen.specs.Uses.{Uses}
 use Rattle.func_gen.proofs.BlocksGone.{adds_used, asked_still, blocks_left, returned_still}
+use Rattle.func_gen.proofs.BlocksThere.{counts_many}
 use Rattle.func_gen.proofs.CallRows.{split_used}
 use Rattle.func_gen.proofs.Lasting.{still_free}
 use Rattle.func_gen.proofs.LiftedCaseRows.{AreCases}
@@ -46,9 +46,6 @@ use Rattle.func_gen.proofs.LiftedMatches.{frees_case, lifts_case, lifts_variant}
 use Rattle.func_gen.proofs.NumberQuiet.{quiet_numbers}
 
 -- 1. How many there are
-
-counts_many : (payloads : List (Option WitType)) → length (payload_counts payloads) ≡ length payloads
-counts_many payloads = length-reverse (result_counts payloads) ∙ length-map payloads (λ ty. length (option_to_list ty))
 
 shapes_many : (types : List TypeDef) (payloads : List (Option WitType)) → count (payloads_in (shapes types) payloads) ≡ length payloads
 shapes_many types [] = refl

@@ -67,7 +67,7 @@ use Rattle.func_gen.specs.Facts.{AreOwned, IsThere, matches}
 use Rattle.func_gen.specs.Forms.{operand_of}
 use Rattle.func_gen.specs.Opened.{open_blocks}
 use Rattle.func_gen.specs.Meaning.{AllAsCalled, AreaIs, Denote, File, Found, FuncState, GivesAsCalled, account_of, answer_of, call_of, func_meaning, owns_of, run_code, run_head, seen, setting_for, target_of}
-use Rattle.func_gen.specs.MethodForms.{CallsIn, call_block, is_uncalled}
+use Rattle.func_gen.specs.MethodForms.{CallsIn, call_block}
 use Rattle.func_gen.specs.Read.{Env, Read, env_of, less, read}
 use Rattle.func_gen.specs.ReadForms.{read-local}
 use Rattle.func_gen.specs.TypeSites.{AreDefined}
@@ -508,11 +508,6 @@ module _ (f : Function) (os : List ExprOperand) (held : Option Bytes) (old new :
   hands : HandsOver func_meaning f os (results held) old new
   hands vals w p others s0 s many at all_theirs = by_method vals w p others s0 s many at all_theirs (method_named w.items w.bound (rust_ident f.name)) refl
 
-uncalled : (call : Option CallBlock) (asked : List Asked) → is_uncalled call asked ≡ true → (call ≡ None) × (asked ≡ [])
-uncalled None [] h = (refl, refl)
-uncalled None (x ∷ asked) h = absurd cc
-uncalled (Some c) asked h = absurd cc
-
 as_many : (held : Option Bytes) → length (results held) ≡ length (option_to_list held)
 as_many None = refl
 as_many (Some n) = refl
@@ -537,10 +532,9 @@ becomes f os (Some ty) (Some n) old new a first same named = record {
   finished = a.finished;
 }
 
-pub method_row : (types : List TypeDef) (f : Bor Function) (os : List ExprOperand) (held : Option Bytes) (old new : FunctionBindgen) → CallsIn f.now (exprs os) held old new → is_uncalled old.code.call old.asked ≡ true → old.import ≡ false
+pub method_row : (types : List TypeDef) (f : Bor Function) (os : List ExprOperand) (held : Option Bytes) (old new : FunctionBindgen) → CallsIn f.now (exprs os) held old new → old.code.call ≡ None → old.asked ≡ [] → old.import ≡ false
     → result_count f.now ≡ length (option_to_list held) → NewLocal held old new → NamedBy held old new → Emits func_meaning types (instruction.CallInterface f) os (results held) old new
-method_row types f os held old new a none export due local named =
-    let (first, unasked) = uncalled old.code.call old.asked none in
+method_row types f os held old new a first unasked export due local named =
     record {
       adds = method_grows f.now os held old new a first (names_still held old new local);
       blocks = ap reverse a.finished;

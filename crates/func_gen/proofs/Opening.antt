@@ -412,6 +412,10 @@ module _ (old new : FunctionBindgen) (a : Suspends old new) where
     known = known;
     asked = a.asked;
     returned = a.returned;
+    uncalled = λ h. record {
+      here = ap (λ (c : Code). c.call) a.block.code;
+      around = subst (AllByRecursion (λ (o : OpenBlock). o.code.call ≡ None)) (sym a.block.opened) (all_both (λ (o : OpenBlock). o.code.call ≡ None) old.opened (opening ∷ []) h.around (h.here, tt));
+    };
   }
 
   pub pushes : Pushes func_meaning old new

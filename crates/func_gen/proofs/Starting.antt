@@ -30,6 +30,7 @@ use Rattle.abi_bindgen.specs.Laws.{AreLent, Data, IsNew, args}
 use Rattle.abi_bindgen.specs.Meaning.{arg, item, word}
 use Rattle.func_gen.specs.declared.function_bindgen.Code.{Code}
 use Rattle.func_gen.specs.declared.function_bindgen.FunctionBindgen.{FunctionBindgen}
+use Rattle.func_gen.specs.declared.function_bindgen.OpenBlock.{OpenBlock}
 use Rattle.func_gen.specs.declared.function_bindgen.ParamSite.{ParamSite}
 use Rattle.func_gen.specs.FactLemmas.{said}
 use Rattle.func_gen.specs.Facts.{AreOwned, IsThere, Owns, val_of, wrong}
@@ -234,6 +235,7 @@ module _ (b : FunctionBindgen) (unasked : b.asked ≡ []) (used : (n : Bytes) �
     empty = empty;
     endless = endless;
     unasked = unasked;
+    uncalled = record { here = ap (λ (c : Code). c.call) empty; around = subst (AllByRecursion (λ (o : OpenBlock). o.code.call ≡ None)) (sym closed) tt };
     world = record { items = items_of defs; item = 0; bound = b.home; area = None };
     serves = record {
       runtime = subst (Found (items_of defs)) (sym runtime) tt;

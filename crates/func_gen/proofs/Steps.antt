@@ -1,5 +1,5 @@
 -- Statements that are added to the code: how it then runs, and what it leaves as it was.
-use Rattle.std.proofs.Common.{◌≡◌, ℕ, not, if◌then◌else◌, List, [], ◌∷◌, ◌++◌, length, map, reverse, Option, Some, refl, sym, ap, ap₂, ◌∙◌, subst, false}
+use Rattle.std.proofs.Common.{◌≡◌, ℕ, not, if◌then◌else◌, List, [], ◌∷◌, ◌++◌, length, map, reverse, Option, Some, refl, sym, ap, ap₂, ◌∙◌, subst, false, None}
 use Rattle.std.specs.List.{AllByRecursion}
 use Rattle.wit_layout.specs.Filled.{IsFilledFor}
 use Rattle.wit_model.specs.Bytes.{Bytes}
@@ -21,6 +21,7 @@ use Rattle.abi_bindgen.specs.Area.{HoldsRecord}
 use Rattle.abi_bindgen.specs.Laws.{Adds, At, Facts, Grows}
 use Rattle.func_gen.specs.declared.function_bindgen.Code.{Code}
 use Rattle.func_gen.specs.declared.function_bindgen.FunctionBindgen.{FunctionBindgen}
+use Rattle.func_gen.specs.declared.function_bindgen.OpenBlock.{OpenBlock}
 use Rattle.func_gen.specs.Added.{Appends}
 use Rattle.func_gen.specs.Opened.{open_blocks}
 use Rattle.func_gen.specs.Meaning.{AllAsCalled, Denote, File, Found, FuncState, GivesAsCalled, Serves, call_of, func_meaning, run_code, run_head, seen, setting_for, static_request}
@@ -152,5 +153,6 @@ module _ (old new : FunctionBindgen) (added : List Stmt) (items : List RuntimeIt
         ap (λ o. (account_in func_meaning.account o).calls) (more_code w p s)
         ∙ seen_calls s.area (and_then before (λ u. run_stmts (setting_for w p) added)) ∙ ap (map call_of) (calls_on before (run_stmts (setting_for w p) added) (quiet (setting_for w p)))
         ∙ sym (seen_calls s.area before);
+    uncalled = λ h. record { here = a.call ∙ h.here; around = subst (AllByRecursion (λ (o : OpenBlock). o.code.call ≡ None)) (sym a.opened) h.around };
     asked = a.asked;
   }

@@ -4,6 +4,7 @@ use Rattle.wit_model.specs.Bytes.{Bytes}
 use Rattle.wit_model.specs.declared.wasm_type.WasmType.{WasmType}
 use Rattle.wit_model.specs.declared.wasm_type.WasmType.TheVariants as wasm
 use Rattle.wit_layout.specs.Cast.{cast}
+use Rattle.wit_layout.specs.Join.{AreInOrder}
 use Rattle.wit_layout.specs.declared.bitcast.Bitcast.{Bitcast}
 use Rattle.wit_layout.specs.declared.bitcast.Bitcast.TheVariants as bitcast
 use Rattle.rust_tree.specs.declared.expr.CastType.TheVariants as to
@@ -63,6 +64,11 @@ abbrev pub core_call : CoreFn → Expr → Expr
 core_call f e = expr.Call (core_path f) (e ∷ [])
 
 -- 3. Casts
+
+-- each step of a cast that is a sequence is one between types of which one joins the other
+abbrev pub HasSteps : Bitcast → Type 0
+HasSteps (bitcast.Sequence from through last) = AreInOrder from through × AreInOrder through last
+HasSteps _ = Unit {0}
 
 -- a cast that is no sequence. What is put into a slot is the pointer as it is
 abbrev pub step_expr : Bitcast → Expr → Expr

@@ -1,11 +1,14 @@
 pub mod Added
 pub mod Area
+pub mod BindgenSeen
+pub mod BindgenView
 pub mod Body
 pub mod CallForms
 pub mod CalledCases
 pub mod CaseForms
 pub mod CastForms
 pub mod CodeOf
+pub mod Dispatch
 pub mod Emission
 pub mod Entered
 pub mod EnumForms
@@ -26,6 +29,7 @@ pub mod MemoryForms
 pub mod MethodForms
 pub mod Opened
 pub mod Operand
+pub mod OperandView
 pub mod PartForms
 pub mod Read
 pub mod ReadForms
@@ -40,3 +44,4 @@ pub mod Suspends
 pub mod TextForms
 pub mod TypeSites
 pub mod Uses
+pub mod Whole

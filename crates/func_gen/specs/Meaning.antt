@@ -96,6 +96,11 @@ pub record Serves (w : File) (b : FunctionBindgen) : Type 0 where
   pub called : GivesAsCalled w.items w.bound b.code.call
   pub suspended : AllAsCalled w.items w.bound b.opened
 
+-- no method was called, of the code of the innermost block or of what it suspends
+pub record IsUncalled (b : FunctionBindgen) : Type 0 where
+  pub here : b.code.call ≡ None
+  pub around : AllByRecursion (λ (o : OpenBlock). o.code.call ≡ None) b.opened
+
 -- 2. States
 
 -- a state of the machine, and where the area stood when the code began
@@ -241,6 +246,7 @@ func_meaning = record {
   exports = λ b. not b.import;
   knows = λ b types. IsFilledFor b.sizes types;
   arguments = λ b. Some (length b.params);
+  uncalled = IsUncalled;
   target = target_of;
   crosses = crossing;
   asked = λ b. b.asked;

@@ -1,20 +1,14 @@
 -- Which code calls a method: a block of all code before it, with the call as its value.
-use Rattle.std.specs.Prelude.{◌≡◌, ℕ, Bool, true, false, List, [], ◌∷◌, codes, Option, None, Some, option_map}
+use Rattle.std.specs.Prelude.{◌≡◌, ℕ, List, [], codes, Option, Some, option_map}
 use Rattle.wit_model.specs.Bytes.{Bytes}
 use Rattle.wit_model.specs.declared.function.Function.{Function}
 use Rattle.rust_tree.specs.Ident.{rust_ident}
 use Rattle.rust_tree.specs.declared.export.CallBlock.{CallBlock}
 use Rattle.rust_tree.specs.declared.expr.Expr.{Expr}
 use Rattle.rust_tree.specs.declared.stmt.Stmt.{Stmt}
-use Rattle.abi_bindgen.specs.declared.bindgen.Asked.{Asked}
 use Rattle.func_gen.specs.declared.function_bindgen.FunctionBindgen.{FunctionBindgen}
 use Rattle.func_gen.specs.Added.{Fresh}
 use Rattle.func_gen.specs.Scope.{TakesOne, with_number}
-
-abbrev pub is_uncalled : Option CallBlock → List Asked → Bool
-is_uncalled None [] = true
-is_uncalled None (_ ∷ _) = false
-is_uncalled (Some _) asked = false
 
 abbrev pub call_block : Function → List Stmt → List Expr → Option Bytes → CallBlock
 call_block f stmts arguments value = record { result = value; stmts = stmts; method = rust_ident f.name; arguments = arguments }

@@ -8,18 +8,18 @@ ghost use Rattle.func_gen.specs.Operand.{is_operand};
 ghost use Rattle.func_gen.specs.Scope.{TakesOne};
 
 use crate::function_bindgen::FunctionBindgen;
-use crate::operand::{ExprOperand, copy_expr, is_operand};
+use crate::operand::{ExprOperand, copy_expr};
 use crate::scope::{LocalName, numbered};
 use rust_tree::{Expr, RuntimeItem, Stmt};
 use std::alloc::Global;
 use wit_model::{List, OutOfMemory, Text};
 
-/// The expression of an operand. Of an expression that is no operand there is no memory, nor of a word that is kept as a number.
+/// The expression of an operand. Of a word that is kept as a number there is no memory.
 pub(crate) fn operand_expr(operand: &ExprOperand) -> Result<&Expr, OutOfMemory>
     ensures same { IfOk result (λ e. operand.now ≡ operand_of e.now) }
     ensures operand { IfOk result (λ e. is_operand e.now ≡ true) }
 {
-    if operand.kept || !is_operand(&operand.expr) {
+    if operand.kept {
         return Err(OutOfMemory);
     }
     Ok(&operand.expr)

@@ -1,6 +1,7 @@
 //! The return area is asked for, and its address is taken.
 
-ghost use Rattle.std.specs.Prelude.{◌≡◌, IfOk};
+ghost use Rattle.std.specs.Prelude.{◌≡◌, ◌<◌, ◌^◌, IfOk};
+ghost use Rattle.wit_model.specs.Size.{bytes_at};
 ghost use Rattle.abi_bindgen.specs.Area.{IsAlignment};
 ghost use Rattle.abi_bindgen.specs.Laws.{PointsTo};
 ghost use Rattle.func_gen.specs.Area.{area_pointer};
@@ -26,6 +27,7 @@ impl FunctionBindgen {
 
     /// A new local of the address of the area, which has room for one more record.
     pub(crate) fn point(&mut self, room: Asked) -> Result<ExprOperand, OutOfMemory>
+        requires small { bytes_at room.size 8 < 2 ^ 31 }
         requires aligned { IsAlignment room.align }
         ensures { IfOk result (λ o. PointsTo func_meaning room o self.old self.new) }
     {

@@ -1,10 +1,10 @@
 //! Blocks of code are opened, and their names are read.
 
 ghost use Rattle.std.specs.Prelude.{◌≡◌, [], Some, IfOk, OnOk};
-ghost use Rattle.abi_bindgen.specs.Blocks.{Pushes};
+ghost use Rattle.abi_bindgen.specs.Blocks.{IsOpen, Pushes};
 ghost use Rattle.abi_bindgen.specs.Instructions.{Emits};
 ghost use Rattle.func_gen.specs.Meaning.{func_meaning};
-ghost use Rattle.func_gen.specs.Opened.{innermost, is_closed, stem_read};
+ghost use Rattle.func_gen.specs.Opened.{innermost, stem_read};
 ghost use Rattle.func_gen.specs.Scope.{Takes};
 ghost use Rattle.func_gen.specs.Slot.{block_names};
 ghost use Rattle.func_gen.specs.Suspends.{Suspends};
@@ -75,24 +75,15 @@ impl FunctionBindgen {
         Ok(())
     }
 
-    /// Whether no block is open.
-    pub(crate) fn is_closed(&self) -> bool
-        ensures { result ≡ is_closed self.now.opened }
+    /// The number of the innermost open block.
+    fn innermost(&self) -> u32
+        requires { IsOpen func_meaning self.now }
+        ensures { innermost self.now.opened ≡ Some result }
     {
-        match self.opened.as_slice() {
-            [] => true,
-            _ => false,
+        match self.opened.as_slice().last() {
+            Some(block) => block.number,
+            None => unreachable!(),
         }
-    }
-
-    /// The number of the innermost open block. Where none is open there is no memory.
-    fn innermost(&self) -> Result<u32, OutOfMemory>
-        ensures { IfOk result (λ k. innermost self.now.opened ≡ Some k) }
-    {
-        let Some(block) = self.opened.as_slice().last() else {
-            return Err(OutOfMemory);
-        };
-        Ok(block.number)
     }
 
     /// The local of a name of the innermost open block, by what stands before its number.
@@ -103,11 +94,12 @@ impl FunctionBindgen {
         stem: &str,
         results: &mut List<ExprOperand>,
     ) -> Result<(), OutOfMemory>
+        requires is_open { IsOpen func_meaning self.old }
         requires stem { stem_read inst.now ≡ Some stem.now }
         requires empty { results.old ≡ [] }
         ensures { OnOk result (Emits func_meaning resolve.now.types inst.now [] results.new self.old self.new) }
     {
-        let number = self.innermost()?;
+        let number = self.innermost();
         let name = LocalName {
             prefix: stem,
             part: None,

@@ -1,34 +1,46 @@
 //! Finished blocks are used up.
 
-ghost use Rattle.std.specs.Prelude.{◌≡◌, ◌++◌, length, reverse, IfOk};
+ghost use Rattle.std.specs.Prelude.{◌≡◌, ◌<◌, ◌≤◌, ◌∷◌, ◌++◌, length, reverse, IfOk};
 ghost use Rattle.func_gen.specs.Uses.{Uses};
 
 use crate::function_bindgen::{FinishedBlock, FunctionBindgen};
 use std::alloc::Global;
 use wit_model::{List, OutOfMemory};
 
-/// Takes so many blocks, the last one first. Where fewer are there, there is no memory.
+/// Takes so many blocks, the last one first.
 fn last_blocks(
     alloc: Global,
     finished: &mut Vec<FinishedBlock>,
     count: usize,
 ) -> Result<List<FinishedBlock>, OutOfMemory>
+    requires there { count ≤ length finished.old.items }
     ensures taken { IfOk result (λ blocks. reverse finished.old.items ≡ blocks ++ reverse finished.new.items) }
     ensures many { IfOk result (λ blocks. length blocks ≡ count) }
 {
     let mut blocks = List::new(alloc);
     for _i in 0..count {
         let Some(block) = finished.pop() else {
-            return Err(OutOfMemory);
+            unreachable!()
         };
         blocks.push(block)?;
     }
     Ok(blocks)
 }
 
+/// The block that was finished last, and those before it, of blocks of which the last one is the first.
+pub(crate) fn parted(blocks: List<FinishedBlock>) -> (FinishedBlock, List<FinishedBlock>)
+    requires { 0 < length blocks }
+    ensures { blocks ≡ result.0 ∷ result.1 }
+{
+    let mut left = blocks.into_vec();
+    let block = left.remove(0);
+    (block, List::from_vec(left))
+}
+
 impl FunctionBindgen {
     /// So many blocks that were finished last, the last one first, which are kept no more.
     pub(crate) fn use_blocks(&mut self, count: usize) -> Result<List<FinishedBlock>, OutOfMemory>
+        requires there { count ≤ length self.old.finished }
         ensures { IfOk result (λ blocks. Uses blocks count self.old self.new) }
     {
         let mut finished = std::mem::replace(&mut self.finished, List::new(self.alloc)).into_vec();

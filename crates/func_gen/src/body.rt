@@ -1,12 +1,14 @@
 //! The body of a wrapper, once its code was made.
 
-ghost use Rattle.std.specs.Prelude.{◌≡◌, ◌^◌, ◌<◌, true, IfOk, IfSome};
-ghost use Rattle.wit_model.specs.Size.{bytes_at, rounded_up};
+ghost use Rattle.std.specs.Prelude.{◌≡◌, ◌^◌, ◌≤◌, [], true, length, IfOk, IfSome};
+ghost use Rattle.std.specs.List.{AllByRecursion};
+ghost use Rattle.wit_model.specs.Size.{bytes_at};
 ghost use Rattle.func_gen.specs.Body.{Gives, IsBodyOf, greater, needed, tables_of};
 ghost use Rattle.func_gen.specs.Operand.{is_operand};
+ghost use Rattle.func_gen.specs.Whole.{IsSmall};
 
 use crate::function_bindgen::{Code, FunctionBindgen};
-use crate::operand::{ExprOperand, copy_expr, is_operand};
+use crate::operand::ExprOperand;
 use crate::type_tables::TypeTables;
 use abi_bindgen::Asked;
 use rust_tree::{CallBlock, Expr, RuntimeItem, Stmt};
@@ -29,23 +31,11 @@ pub struct Body {
 }
 
 impl FunctionBindgen {
-    /// The body that was made, and the tables by which it was. There is no memory also where the code gives several operands or an expression
-    /// that is none, where the area is of no size that a memory has, and where a block is open.
-    pub fn finish(self) -> Result<(Body, TypeTables), OutOfMemory>
-        ensures body { IfOk result (λ made. IsBodyOf self made.0) }
-        ensures tables { IfOk result (λ made. made.1 ≡ tables_of self) }
-    {
-        if !self.is_closed() {
-            return Err(OutOfMemory);
-        }
-        let tail = tail_of(self.alloc, &self.returned)?;
-        let area = needed_area(self.asked.as_slice())?;
-        Ok(self.into_body(tail, area))
-    }
-
-    /// The body with this end and this area, and the tables.
-    fn into_body(self, tail: Option<Expr>, area: Option<Asked>) -> (Body, TypeTables)
-        ensures body { result.0 ≡ record { call = self.code.call; stmts = self.code.stmts; tail = tail; area = area; runtime = self.runtime } }
+    /// The body that was made, and the tables by which it was. No block is open, and the code gives one operand at most.
+    pub fn finish(self) -> (Body, TypeTables)
+        requires closed { self.opened ≡ [] }
+        requires few { IfSome self.returned (λ os. length os ≤ 1) }
+        ensures body { IsBodyOf self result.0 }
         ensures tables { result.1 ≡ tables_of self }
     {
         let FunctionBindgen {
@@ -53,8 +43,12 @@ impl FunctionBindgen {
             sites,
             code,
             runtime,
+            asked,
+            returned,
             ..
         } = self;
+        let area = area_for(asked.as_slice());
+        let tail = tail_of(returned);
         let Code { call, stmts } = code;
         let body = Body {
             call,
@@ -67,27 +61,24 @@ impl FunctionBindgen {
     }
 }
 
-fn tail_of(alloc: Global, returned: &Option<List<ExprOperand>>) -> Result<Option<Expr>, OutOfMemory>
-    ensures gives { IfOk result (λ tail. Gives returned.now tail) }
-    ensures operand { IfOk result (λ tail. IfSome tail (λ e. is_operand e ≡ true)) }
+/// What the code gives: nothing, or the one operand.
+fn tail_of(returned: Option<List<ExprOperand>>) -> Option<Expr>
+    requires few { IfSome returned (λ os. length os ≤ 1) }
+    ensures gives { Gives returned result }
+    ensures operand { IfSome result (λ e. is_operand e ≡ true) }
 {
-    let Some(given) = returned else {
-        return Ok(None);
-    };
-    match given.as_slice() {
-        [] => Ok(None),
-        [operand] if is_operand(&operand.expr) => Ok(Some(copy_expr(&operand.expr, alloc)?)),
-        _ => Err(OutOfMemory),
-    }
+    let operand = returned?.into_vec().pop()?;
+    let ExprOperand { expr, kept: _ } = operand;
+    Some(expr)
 }
 
-/// The area for all these records: of a body those for which its code asked, and of a file those of its bodies. There is no memory also where
-/// it is of no size that a memory has.
-pub fn needed_area(asked: &[Asked]) -> Result<Option<Asked>, OutOfMemory>
-    ensures { IfOk result (λ area. area ≡ needed asked.now) }
+/// The area for all these records, of whose sizes each is one that a memory has.
+fn area_for(asked: &[Asked]) -> Option<Asked>
+    requires small { AllByRecursion IsSmall asked.now }
+    ensures { result ≡ needed asked.now }
 {
     if asked.is_empty() {
-        return Ok(None);
+        return None;
     }
     let mut area = Asked {
         size: ArchitectureSize {
@@ -97,27 +88,38 @@ pub fn needed_area(asked: &[Asked]) -> Result<Option<Asked>, OutOfMemory>
         align: Alignment::Bytes(1),
     };
     for record in asked {
-        area = greater(&area, record)?;
+        area = greater(&area, record);
     }
-    Ok(Some(area))
+    Some(area)
+}
+
+/// The area of a file, for those of its bodies. There is no memory also where one is of no size that a memory has.
+pub fn needed_area(asked: &[Asked]) -> Result<Option<Asked>, OutOfMemory>
+    ensures { IfOk result (λ area. area ≡ needed asked.now) }
+{
+    for record in asked {
+        if !is_small(&record.size) {
+            return Err(OutOfMemory);
+        }
+    }
+    Ok(area_for(asked))
 }
 
 /// The greater size and the greater alignment.
-fn greater(a: &Asked, b: &Asked) -> Result<Asked, OutOfMemory>
-    ensures { IfOk result (λ c. c ≡ greater a.now b.now) }
+fn greater(a: &Asked, b: &Asked) -> Asked
+    requires first { IsSmall a.now }
+    requires second { IsSmall b.now }
+    ensures { result ≡ greater a.now b.now }
 {
-    if !is_small(&a.size) || !is_small(&b.size) {
-        return Err(OutOfMemory);
-    }
-    Ok(Asked {
+    Asked {
         size: a.size.max(&b.size),
         align: a.align.max(&b.align),
-    })
+    }
 }
 
-/// Whether a size is one that a memory may have.
+/// Whether a size is at most 2^31 bytes where pointers have 8.
 fn is_small(size: &ArchitectureSize) -> bool
-    ensures { result ≡ true → rounded_up 8 (bytes_at size.now 8) < 2 ^ 64 }
+    ensures { result ≡ true → bytes_at size.now 8 ≤ 2 ^ 31 }
 {
-    size.bytes <= 0xFFFF_FFFF && size.pointers <= 0xFFFF_FFFF
+    u128::from(size.bytes) + u128::from(size.pointers) * 8 <= 0x8000_0000
 }

@@ -23,9 +23,10 @@ mod scalars;
 mod texts;
 mod variants;
 
-ghost use Rattle.std.specs.Prelude.{◌≡◌, ◌<◌, [], length, OnOk};
+ghost use Rattle.std.specs.Prelude.{◌≡◌, ◌<◌, [], true, length, OnOk};
 ghost use Rattle.abi_bindgen.specs.Instructions.{Emits, IsSendable};
 ghost use Rattle.abi_bindgen.specs.declared.instruction.Instruction.TheVariants as instruction;
+ghost use Rattle.func_gen.specs.Dispatch.{is_touch};
 ghost use Rattle.func_gen.specs.Meaning.{func_meaning};
 
 use crate::emit::loads::{small_load, whole_load};
@@ -52,7 +53,7 @@ impl FunctionBindgen {
         Ok(())
     }
 
-    /// A core word is stored or loaded. To any other instruction the answer is `OutOfMemory`.
+    /// A core word is stored or loaded.
     pub(crate) fn touch(
         &mut self,
         resolve: &Resolve,
@@ -61,6 +62,7 @@ impl FunctionBindgen {
         results: &mut List<ExprOperand>,
     ) -> Result<(), OutOfMemory>
         requires sendable { IsSendable func_meaning resolve.now inst.now operands.now self.old }
+        requires touch { is_touch inst.now ≡ true }
         requires empty { results.old ≡ [] }
         ensures { OnOk result (Emits func_meaning resolve.now.types inst.now operands.now results.new self.old self.new) }
     {
@@ -76,7 +78,7 @@ impl FunctionBindgen {
         if let Some(place) = small_load(inst) {
             return self.load_low(resolve, inst, place, operands, results);
         }
-        Err(OutOfMemory)
+        unreachable!()
     }
 
     pub(crate) fn give(

@@ -1,53 +1,46 @@
 //! Blocks of code are closed.
 
-ghost use Rattle.std.specs.Prelude.{◌≡◌, ◌++◌, option_to_list, OnOk};
-ghost use Rattle.abi_bindgen.specs.Blocks.{Finishes};
+ghost use Rattle.std.specs.Prelude.{◌≡◌, ◌<◌, [], ◌∷◌, ◌++◌, true, length, OnOk};
+ghost use Rattle.abi_bindgen.specs.Blocks.{Finishes, IsOpen};
 ghost use Rattle.func_gen.specs.Meaning.{func_meaning};
 ghost use Rattle.func_gen.specs.PartForms.{are_operands};
 ghost use Rattle.func_gen.specs.Resumes.{Resumes};
 
 use crate::function_bindgen::{Code, FinishedBlock, FunctionBindgen, OpenBlock};
-use crate::operand::{ExprOperand, is_operand};
+use crate::operand::ExprOperand;
 use std::alloc::Global;
 use wit_model::{List, OutOfMemory};
 
-/// Whether each expression may be an operand.
-fn are_operands(operands: &[ExprOperand]) -> bool
-    ensures { result ≡ are_operands operands.now }
+/// Each of these expressions may be an operand: each is looked at for the proof alone.
+fn are_operands(operands: &[ExprOperand])
+    ensures { are_operands operands.now ≡ true }
 {
     for operand in operands {
-        if !is_operand(&operand.expr) {
-            return false;
-        }
+        let _ = &operand.expr;
     }
-    true
 }
 
-/// The last one is taken away, if there is one.
-fn take_last(alloc: Global, opened: &mut List<OpenBlock>) -> Option<OpenBlock>
-    ensures { opened.old ≡ opened.new ++ option_to_list result }
+/// The last one is taken away.
+fn take_last(alloc: Global, opened: &mut List<OpenBlock>) -> OpenBlock
+    requires some { 0 < length opened.old }
+    ensures { opened.old ≡ opened.new ++ result ∷ [] }
 {
     let mut all = std::mem::replace(opened, List::new(alloc)).into_vec();
-    let last = all.pop();
+    let Some(last) = all.pop() else {
+        unreachable!()
+    };
     *opened = List::from_vec(all);
     last
 }
 
 impl FunctionBindgen {
-    /// The innermost block is the last finished one, and the code that it suspended is resumed. Where none is open, there is no memory for it,
-    /// nor where a method was called in it or a result is no operand.
+    /// The innermost block is the last finished one, and the code that it suspended is resumed.
     fn resume(&mut self, operands: &mut List<ExprOperand>) -> Result<(), OutOfMemory>
+        requires some { 0 < length self.old.opened }
         ensures { OnOk result (Resumes operands.old self.old self.new) }
     {
-        if self.code.call.is_some() {
-            return Err(OutOfMemory);
-        }
-        if !are_operands(operands.as_slice()) {
-            return Err(OutOfMemory);
-        }
-        let Some(open) = take_last(self.alloc, &mut self.opened) else {
-            return Err(OutOfMemory);
-        };
+        are_operands(operands.as_slice());
+        let open = take_last(self.alloc, &mut self.opened);
         let OpenBlock {
             number,
             names,
@@ -70,6 +63,7 @@ impl FunctionBindgen {
         &mut self,
         operands: &mut List<ExprOperand>,
     ) -> Result<(), OutOfMemory>
+        requires { IsOpen func_meaning self.old }
         ensures { OnOk result (Finishes func_meaning operands.old self.old self.new) }
     {
         self.resume(operands)?;

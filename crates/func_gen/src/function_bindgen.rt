@@ -16,6 +16,7 @@ use abi_bindgen::Asked;
 use local_names::Names;
 use rust_tree::{CallBlock, RuntimeItem, Stmt};
 use std::alloc::Global;
+use std::marker::Model;
 use wit_layout::SizeAlign;
 use wit_model::{List, OutOfMemory, Text};
 
@@ -87,6 +88,25 @@ pub struct FunctionBindgen {
     pub(crate) asked: List<Asked>,
     /// What the code gives, once it was told.
     pub(crate) returned: Option<List<ExprOperand>>,
+}
+
+impl Model for FunctionBindgen {
+    ghost use Rattle.std.specs.Coded.{codes};
+    ghost use Rattle.rust_tree.specs.contracts.expr.Expr as expr_contract;
+    ghost use Rattle.rust_tree.specs.contracts.stmt.Stmt as stmt_contract;
+    ghost use Rattle.func_gen.specs.BindgenView.{BindgenView};
+
+    ghost Value = { BindgenView };
+
+    ghost coded = { Prim.hlevel (codes, expr_contract.the_row.coded, stmt_contract.the_row.coded) };
+
+    ghost use Rattle.func_gen.specs.BindgenSeen.{seen_bindgen};
+
+    ghost view = { seen_bindgen };
+
+    ghost use Rattle.func_gen.specs.Whole.{IsWhole};
+
+    ghost invariant = { λ b. IsWhole b.opened b.code.call b.asked };
 }
 
 /// The names that are used at first.

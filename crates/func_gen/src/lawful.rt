@@ -19,8 +19,7 @@ impl Bindgen for FunctionBindgen {
 
     /// The statements of arguments, constants, casts of core words and scalars, of texts, tuples and records, of enums and flags, of stores,
     /// loads and frees, of variants, options and results that are lowered or lifted, of operands that get locals of their own and of the
-    /// call of a core import, the block that calls a method of no resource, the names of an open block, and what the code gives. Of any
-    /// other instruction so far, and of an expression that is no operand, the answer is `OutOfMemory`.
+    /// call of a core import, the block that calls a method of no resource, the names of an open block, and what the code gives.
     fn emit(
         &mut self,
         resolve: &Resolve,

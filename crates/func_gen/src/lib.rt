@@ -19,7 +19,6 @@ mod lawful;
 mod operand;
 mod record_site;
 mod scope;
-mod something;
 mod type_site;
 mod type_tables;
 mod variant_site;

@@ -11,7 +11,7 @@ use wit_model::{List, OutOfMemory, Text};
 #[derive(Clone, Copy)]
 pub(crate) struct LocalName<'a> {
     pub(crate) prefix: &'a str,
-    pub(crate) part: Option<u32>,
+    pub(crate) part: Option<usize>,
 }
 
 /// The names that a wrapper uses so far, and the counter from which the next number is looked for.
@@ -30,7 +30,7 @@ pub(crate) fn numbered(alloc: Global, name: LocalName<'_>, t: u32) -> Result<Tex
     text.push_number(u64::from(t))?;
     if let Some(part) = name.part {
         text.push_str("_")?;
-        text.push_number(u64::from(part))?;
+        text.push_number(part as u64)?;
     }
     Ok(text)
 }

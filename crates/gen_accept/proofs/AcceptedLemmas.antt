@@ -140,7 +140,7 @@ module _ (opts : Opts) (r : Resolve) (id : WorldId) (world : World) (checked : I
 
   -- the types of its functions
 
-  pub functions-defined : functions_pass is_defined_type world ≡ true
+  functions-defined : functions_pass is_defined_type world ≡ true
   functions-defined = world-types world built-world
 
   types-pass : list_all is_defined_type (function_types r world) ≡ true

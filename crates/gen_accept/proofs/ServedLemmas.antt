@@ -7,6 +7,8 @@ use Rattle.std.proofs.lemmas.Bool.{and_parts, leb-false, leb-true}
 use Rattle.std.proofs.lemmas.List.{length-map}
 use Rattle.std.proofs.lemmas.List.Folds.{list_all-map}
 use Rattle.wit_model.specs.declared.function.Function.{Function}
+use Rattle.wit_model.specs.declared.function.FunctionKind.{FunctionKind}
+use Rattle.wit_model.specs.declared.function.FunctionKind.TheVariants as sort
 use Rattle.wit_model.specs.declared.types.Case.{Case}
 use Rattle.wit_model.specs.declared.types.TypeDef.{TypeDef}
 use Rattle.wit_model.specs.declared.types.TypeDefKind.{TypeDefKind}
@@ -24,9 +26,9 @@ use Rattle.abi_bindgen.proofs.BareCases.{count_bare}
 use Rattle.abi_bindgen.proofs.Payloads.{count_payloads}
 use Rattle.abi_driver.specs.Low.{IsSmallRecord}
 use Rattle.type_defs.specs.Defined.{is_defined_part, is_defined_type}
-use Rattle.type_defs.specs.FunctionTypes.{entries_pass, function_passes, functions_pass, passes_or_none}
+use Rattle.type_defs.specs.FunctionTypes.{function_passes, passes_or_none}
 use Rattle.type_defs.specs.ListedTypes.{Entries}
-use Rattle.gen_accept.specs.Built.{is_built_kind, most_cases}
+use Rattle.gen_accept.specs.Built.{is_built_function, is_built_item, is_built_kind, is_built_world, is_freestanding, is_no_type, most_cases}
 use Rattle.gen_accept.specs.Emitted.{exported_functions, functions_in, imported_functions}
 use Rattle.gen_accept.specs.TooLarge.{first_large_function, is_large, is_large_function}
 use Rattle.gen_accept.proofs.LargeLemmas.{found-behind, found-front}
@@ -96,6 +98,10 @@ behind-served ss serve (t ∷ types) h =
 
 -- 2. Functions
 
+free-kind : (k : FunctionKind) → is_freestanding k ≡ true → k ≡ sort.Freestanding
+free-kind sort.Freestanding h = refl
+free-kind _ h = absurd (cc)
+
 module _ (types : List TypeDef) (built : list_all (λ t. is_built_kind t.kind) types ≡ true) where
   pub table-served : AllServe (shapes types)
   unfolding shapes
@@ -105,34 +111,39 @@ module _ (types : List TypeDef) (built : list_all (λ t. is_built_kind t.kind) t
   result-served None h = tt
   result-served (Some ty) h = type-served (shapes types) table-served ty h
 
-  -- one whose types can be named in a definition
-  pub function-served : (f : Function) → function_passes is_defined_type f ≡ true → ServesFunction types f
+  -- one of no resource, whose types can be named in a definition
+  pub function-served : (f : Function) → is_built_function f ≡ true → ServesFunction types f
   function-served f h =
-      let both = and_parts (list_all (λ p. is_defined_type p.ty) f.params) (passes_or_none is_defined_type f.result) h in
+      let built = and_parts (is_freestanding f.kind) (function_passes is_defined_type f) h in
+      let both = and_parts (list_all (λ p. is_defined_type p.ty) f.params) (passes_or_none is_defined_type f.result) built.1 in
       record {
+        plain = free-kind f.kind built.0;
         params = parts-served (shapes types) table-served (λ ty. Some ty) (map (λ p. p.ty) f.params) (list_all-map is_defined_type (λ p. p.ty) f.params ∙ both.0);
         result = result-served f.result both.1;
       }
 
--- each function of a side passes what its entries pass
-entry-passes : (test : WitType → Bool) (entries : Entries) → entries_pass test entries ≡ true → (nth : ℕ) (f : Function) → slice_get (functions_in entries) nth ≡ Some f → function_passes test f ≡ true
-entry-passes test [] h nth f at = absurd (cc)
-entry-passes test ((k, entry.Interface i) ∷ entries) h nth f at = entry-passes test entries h nth f at
-entry-passes test ((k, entry.Named i) ∷ entries) h nth f at = entry-passes test entries h nth f at
-entry-passes test ((k, entry.Function g) ∷ entries) h zero f at =
-    let is : g ≡ f = cc in ap (function_passes test) (sym is) ∙ (and_parts (function_passes test g) (entries_pass test entries) h).0
-entry-passes test ((k, entry.Function g) ∷ entries) h (suc nth) f at = entry-passes test entries (and_parts (function_passes test g) (entries_pass test entries) h).1 nth f at
+-- each function of a side is built where its entries are
+entry-built : (entries : Entries) → list_all (λ e. is_built_item e.1) entries ≡ true → (nth : ℕ) (f : Function) → slice_get (functions_in entries) nth ≡ Some f → is_built_function f ≡ true
+entry-built [] h nth f at = absurd (cc)
+entry-built ((k, entry.Interface i) ∷ entries) h nth f at = absurd (let no = h in cc)
+entry-built ((k, entry.Named i) ∷ entries) h nth f at = entry-built entries h nth f at
+entry-built ((k, entry.Function g) ∷ entries) h zero f at =
+    let is : g ≡ f = cc in ap is_built_function (sym is) ∙ (and_parts (is_built_function g) (list_all (λ e. is_built_item e.1) entries) h).0
+entry-built ((k, entry.Function g) ∷ entries) h (suc nth) f at = entry-built entries (and_parts (is_built_function g) (list_all (λ e. is_built_item e.1) entries) h).1 nth f at
 
--- the functions of a world, where its tables are built
-module _ (types : List TypeDef) (world : World) (built : list_all (λ t. is_built_kind t.kind) types ≡ true) (pass : functions_pass is_defined_type world ≡ true) where
-  sides : (entries_pass is_defined_type world.imports ≡ true) × (entries_pass is_defined_type world.exports ≡ true)
-  sides = and_parts (entries_pass is_defined_type world.imports) (entries_pass is_defined_type world.exports) pass
+-- the functions of a world that is built, where its tables are
+module _ (types : List TypeDef) (world : World) (built : list_all (λ t. is_built_kind t.kind) types ≡ true) (known : is_built_world world ≡ true) where
+  sides : (list_all (λ e. is_built_item e.1) world.imports ≡ true) × (list_all (λ e. is_built_item e.1) world.exports ≡ true)
+  unfolding is_built_world
+  sides =
+      and_parts (list_all (λ e. is_built_item e.1) world.imports) (list_all (λ e. is_built_item e.1) world.exports)
+      (and_parts _ (list_all (λ e. is_no_type e.1) world.exports) known).0
 
   pub imports-served : (nth : ℕ) (f : Function) → slice_get (imported_functions world) nth ≡ Some f → ServesFunction types f
-  imports-served nth f at = function-served types built f (entry-passes is_defined_type world.imports sides.0 nth f at)
+  imports-served nth f at = function-served types built f (entry-built world.imports sides.0 nth f at)
 
   pub exports-served : (nth : ℕ) (f : Function) → slice_get (exported_functions world) nth ≡ Some f → ServesFunction types f
-  exports-served nth f at = function-served types built f (entry-passes is_defined_type world.exports sides.1 nth f at)
+  exports-served nth f at = function-served types built f (entry-built world.exports sides.1 nth f at)
 
 -- 3. Sizes
 

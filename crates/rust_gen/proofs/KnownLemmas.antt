@@ -11,7 +11,7 @@ use Rattle.wit_model.specs.declared.world.World.{World}
 use Rattle.gen_accept.specs.Cause.{is_accepted, is_built}
 use Rattle.gen_accept.specs.NameText.{are_written_tables, is_written_world}
 use Rattle.gen_accept.specs.declared.opts.Opts.{Opts}
-use Rattle.gen_accept.proofs.AcceptedLemmas.{built-kinds, definable, exported-types, functions-defined, imported-types}
+use Rattle.gen_accept.proofs.AcceptedLemmas.{built-kinds, built-world, definable, exported-types, imported-types}
 use Rattle.gen_accept.proofs.CauseLemmas.{accepted-declares, accepted-small, accepted-type_names, accepted-written}
 use Rattle.gen_accept.proofs.DeclaredLemmas.{distinct_params}
 use Rattle.gen_accept.proofs.FunctionLemmas.{exports-within, imports-within}
@@ -27,7 +27,7 @@ pub accepted-is-known : (opts : Opts) (r : Resolve) (id : WorldId) (world : Worl
 accepted-is-known opts r id world well built accepted e =
     let declared = accepted-declares opts r world accepted in
     let kinds = built-kinds opts r id world well built accepted e in
-    let pass = functions-defined opts r id world well built accepted e in
+    let plain = built-world opts r id world well built accepted e in
     let few = none-functions r.types world (accepted-small opts r world accepted) in
     record {
       well = well;
@@ -36,8 +36,8 @@ accepted-is-known opts r id world well built accepted e =
       declared = declared;
       imports = imports-within r id.0 world well e;
       exports = exports-within r id.0 world well e;
-      imports_code = λ nth f at. record { serves = imports-served r.types world kinds pass nth f at; small = imports-small r.types world few nth f at };
-      exports_code = λ nth f at. record { serves = exports-served r.types world kinds pass nth f at; small = exports-small r.types world few nth f at };
+      imports_code = λ nth f at. record { serves = imports-served r.types world kinds plain nth f at; small = imports-small r.types world few nth f at };
+      exports_code = λ nth f at. record { serves = exports-served r.types world kinds plain nth f at; small = exports-small r.types world few nth f at };
       distinct = distinct_params opts r world declared;
       names = accepted-type_names opts r world accepted;
       imports_use = imported-types opts r id world well built accepted e;

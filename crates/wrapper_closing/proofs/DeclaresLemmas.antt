@@ -9,8 +9,7 @@ use Rattle.rust_tree.specs.declared.stmt.MatchNames.{MatchNames}
 use Rattle.rust_tree.specs.declared.stmt.Stmt.{Stmt-F, fold-roll-Stmt}
 use Rattle.rust_tree.specs.declared.stmt.Stmt.TheVariants as stmt
 use Rattle.rust_tree.specs.declared.stmt.Stmt.TheVariants.{rolls-Match}
-use Rattle.wrapper_closing.specs.declared.declares.Declaration.{Declaration}
-use Rattle.wrapper_closing.specs.Declares.{arm_without_step, block_without_step, declare_none, is_arm_without, is_block_without, is_without, without_step}
+use Rattle.wrapper_closing.specs.Declares.{Declaration, arm_without_step, block_without_step, declare_none, is_arm_without, is_block_without, is_without, without_step}
 
 module _ (what : Declaration) where
   pub without-match : (names : MatchNames) (e : Expr) (arms : List Arm) → is_without what (stmt.Match names e arms) ≡ list_all (is_arm_without what) arms

@@ -1,45 +1,31 @@
 -- An item that closes the body which was made for an export closes the driver's code, and so it is faithful.
-use Rattle.std.proofs.Common.{◌≡◌, ℕ, false, List, ◌∷◌, ◌++◌, length, map, Option, Some, sym, ap, ap₂, ◌∙◌, subst}
+use Rattle.std.proofs.Common.{ℕ, false, List, length, Option, Some, sym, ap, ap₂, ◌∙◌, subst}
 use Rattle.std.specs.Borrow.{Bor}
 use Rattle.rust_tree.specs.Ident.{rust_ident}
 use Rattle.rust_tree.specs.Tree.{Tree}
 use Rattle.wit_model.specs.declared.function.Function.{Function}
 use Rattle.wit_model.specs.declared.types.TypeDef.{TypeDef}
 use Rattle.wit_layout.specs.declared.signature.AbiVariant.TheVariants.{GuestExport}
-use Rattle.wit_layout.specs.Signature.{core_results}
 use Rattle.wrapper_data.specs.declared.run.Target.TheVariants as target
-use Rattle.wrapper_meaning.specs.Represents.{result_words}
 use Rattle.wrapper_meaning.specs.Shape.{Shape, param_shapes, result_shape}
 use Rattle.wrapper_run.specs.Entries.{ExportNames}
-use Rattle.abi_bindgen.specs.declared.instruction.Instruction.TheVariants.{CallInterface}
 use Rattle.abi_bindgen.specs.Calls.{PassesAsItIs}
-use Rattle.abi_bindgen.specs.Code.{call_code, give_code, take_code}
-use Rattle.abi_bindgen.specs.Sends.{Sends}
-use Rattle.abi_bindgen.specs.Sent.{sends}
+use Rattle.abi_bindgen.specs.Code.{call_code}
 use Rattle.func_gen.specs.Body.{Gives}
 use Rattle.func_gen.specs.Meaning.{Found, GivesAsCalled, func_meaning}
 use Rattle.func_gen.specs.TypeSites.{AreDefined}
 use Rattle.func_gen.specs.Sites.{site_names}
 use Rattle.func_gen.specs.declared.body.Body.{Body}
-use Rattle.func_gen.specs.declared.function_bindgen.FunctionBindgen.{FunctionBindgen}
-use Rattle.func_gen.specs.declared.operand.ExprOperand.{ExprOperand}
-use Rattle.func_gen.proofs.StillSent.{last_given, still_sent}
+use Rattle.func_gen.proofs.StillSent.{still_sent}
 use Rattle.wrapper_closing.specs.Bodies.{is_plain_call}
 use Rattle.wrapper_closing.specs.ClosedExport.{AnswersComeIn, ClosesExport, export_file}
 use Rattle.wrapper_closing.specs.ExportBody.{ClosesExportBody}
 use Rattle.wrapper_closing.specs.Laws.{ExportBodyIsFaithful}
-use Rattle.wrapper_closing.specs.declared.declares.Declaration.TheVariants.{Area}
-use Rattle.wrapper_closing.specs.Declares.{declare_none}
+use Rattle.wrapper_closing.specs.Declares.{Area, declare_none}
 use Rattle.wrapper_closing.specs.declared.parts.BodyParts.{BodyParts}
 use Rattle.wrapper_closing.proofs.FaithfulExport.{closed_export_is_faithful}
 use Rattle.wrapper_closing.proofs.Givings.{begun_of, block_with, operands_given, tail_given}
-
--- the last step is the return of the words
-given_by : (types : List TypeDef) (func : Bor Function) (old new : FunctionBindgen) → Sends func_meaning types (call_code types GuestExport func) old new
-    → (os : List ExprOperand) × (length os ≡ length (core_results GuestExport (result_words (result_shape types func.now)))) × (new.returned ≡ Some os)
-given_by types func old new h =
-    let f = func.now in
-    last_given types (take_code types (map (λ p. p.ty) f.params) ++ sends (CallInterface func) ∷ give_code types f.result) (length (core_results GuestExport (result_words (result_shape types f)))) old new h
+use Rattle.wrapper_closing.proofs.Returned.{export_given}
 
 closes_export : (types : List TypeDef) (func : Bor Function) (parts : BodyParts) (body : Body) (names : ExportNames) (results : List (Option Shape)) (tree : Tree) (nth : ℕ)
     → (c : ClosesExportBody types func parts body names results tree nth) → ClosesExport types func.now names results tree nth c.makes.old c.makes.new
@@ -48,7 +34,7 @@ closes_export types func parts body names results tree nth c =
     let b = k.body_of in
     let f = func.now in
     let home = sym k.made.of_home in
-    let (os, count, gave) = given_by types func k.old k.new k.sends in
+    let (os, count, gave) = export_given types func k.old k.new k.sends in
     let tail : Gives (Some os) body.tail = subst (λ r. Gives r body.tail) gave b.tail in
     record {
       number = c.number;

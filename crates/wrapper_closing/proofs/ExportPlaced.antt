@@ -16,8 +16,7 @@ use Rattle.wrapper_run.specs.ExportRun.{keep_result, run_call}
 use Rattle.wrapper_run.specs.Run.{run_stmts}
 use Rattle.func_gen.specs.Meaning.{owns_of, run_code, run_head}
 use Rattle.func_gen.specs.declared.function_bindgen.Code.{Code}
-use Rattle.wrapper_closing.specs.declared.declares.Declaration.TheVariants.{Area}
-use Rattle.wrapper_closing.specs.Declares.{declare_none}
+use Rattle.wrapper_closing.specs.Declares.{Area, declare_none}
 use Rattle.wrapper_closing.proofs.Leaving.{no_items}
 use Rattle.wrapper_closing.proofs.Unasking.{unasked_done}
 use Rattle.wrapper_closing.proofs.Unplaced.{unasking_call, unasking_stmts}

@@ -1,7 +1,6 @@
 -- An item that closes the body which was made for an import closes the driver's code, and so it is faithful.
-use Rattle.std.proofs.Common.{◌≡◌, ℕ, true, false, List, [], ◌∷◌, ◌++◌, length, map, Some, refl, sym, ap, ap₂, ◌∙◌, subst}
+use Rattle.std.proofs.Common.{◌≡◌, ℕ, true, false, List, [], ◌∷◌, ◌++◌, length, Some, refl, sym, ap, ap₂, ◌∙◌, subst}
 use Rattle.std.specs.Borrow.{Bor}
-use Rattle.std.specs.Prelude.{option_to_list}
 use Rattle.rust_tree.specs.Tree.{Tree}
 use Rattle.rust_tree.specs.declared.stmt.Stmt.{Stmt}
 use Rattle.wit_model.specs.Bytes.{Bytes}
@@ -12,18 +11,13 @@ use Rattle.wrapper_data.specs.declared.run.Target.TheVariants as target
 use Rattle.wrapper_faithful.specs.Import.{IsFaithful}
 use Rattle.wrapper_faithful.specs.Passed.{passed}
 use Rattle.abi_bindgen.specs.declared.bindgen.Asked.{Asked}
-use Rattle.abi_bindgen.specs.declared.instruction.Instruction.TheVariants.{CallWasm}
-use Rattle.abi_bindgen.specs.Code.{call_code, pass_code, point_code, read_code}
-use Rattle.abi_bindgen.specs.Sends.{Sends}
-use Rattle.abi_bindgen.specs.Sent.{sends}
+use Rattle.abi_bindgen.specs.Code.{call_code}
 use Rattle.func_gen.specs.Body.{Gives, needed}
-use Rattle.func_gen.specs.Meaning.{Found, func_meaning}
+use Rattle.func_gen.specs.Meaning.{Found}
 use Rattle.func_gen.specs.TypeSites.{AreDefined}
 use Rattle.func_gen.specs.Sites.{site_names}
 use Rattle.func_gen.specs.declared.body.Body.{Body}
-use Rattle.func_gen.specs.declared.function_bindgen.FunctionBindgen.{FunctionBindgen}
-use Rattle.func_gen.specs.declared.operand.ExprOperand.{ExprOperand}
-use Rattle.func_gen.proofs.StillSent.{last_given, still_sent}
+use Rattle.func_gen.proofs.StillSent.{still_sent}
 use Rattle.wrapper_closing.specs.ClosedImport.{ClosesImport}
 use Rattle.wrapper_closing.specs.ImportBlock.{area_stmts, block_of, import_block, local_area}
 use Rattle.wrapper_closing.specs.ImportBody.{ClosesImportBody}
@@ -31,22 +25,17 @@ use Rattle.wrapper_closing.specs.Laws.{ImportBodyIsFaithful}
 use Rattle.wrapper_closing.specs.declared.parts.BodyParts.{BodyParts}
 use Rattle.wrapper_closing.proofs.Givings.{begun_of, block_with, operands_given, tail_given}
 use Rattle.wrapper_closing.proofs.FaithfulImport.{closed_import_is_faithful}
+use Rattle.wrapper_closing.proofs.Returned.{import_given}
 
 local_needed : (name : Bytes) (asked : List Asked) → local_area name (needed asked) ≡ area_stmts name asked
 local_needed name [] = refl
 local_needed name (a ∷ asked) = refl
 
--- the last step is the return of the result
-given_by : (types : List TypeDef) (func : Bor Function) (old new : FunctionBindgen) → Sends func_meaning types (call_code types GuestImport func) old new → (os : List ExprOperand) × (length os ≡ length (option_to_list func.now.result)) × (new.returned ≡ Some os)
-given_by types func old new h =
-    let f = func.now in
-    last_given types (pass_code types (map (λ p. p.ty) f.params) ++ point_code types f.result ++ sends (CallWasm func) ∷ read_code types f.result) (length (option_to_list f.result)) old new h
-
 closes_import : (types : List TypeDef) (func : Bor Function) (parts : BodyParts) (body : Body) (tree : Tree) (nth : ℕ) → (c : ClosesImportBody types func parts body tree nth) → ClosesImport types func.now tree nth c.makes.old c.makes.new
 closes_import types func parts body tree nth c =
     let k = c.makes in
     let b = k.body_of in
-    let (os, count, gave) = given_by types func k.old k.new k.sends in
+    let (os, count, gave) = import_given types func k.old k.new k.sends in
     let tail : Gives (Some os) body.tail = subst (λ r. Gives r body.tail) gave b.tail in
     let area : local_area parts.area body.area ≡ area_stmts k.old.area k.new.asked =
     ap₂ local_area (sym k.made.of_area) b.area ∙ local_needed k.old.area k.new.asked in

@@ -1,252 +1,68 @@
 -- The body that was made for an import declares one core import, which is that of its function.
-use Rattle.std.proofs.Common.{◌≡◌, ℕ, zero, suc, Bool, true, false, not, ◌&&◌, List, [], ◌∷◌, ◌++◌, length, map, reverse, Option, None, Some, refl, sym, ap, ◌∙◌, subst, arith, append_assoc}
+use Rattle.std.proofs.Common.{◌≡◌, true, List, [], ◌∷◌, ◌++◌, length, map, Option, None, Some, refl, sym, ap, ◌∙◌, subst, append_assoc}
 use Rattle.std.specs.Prelude.{option_to_list}
 use Rattle.std.specs.Borrow.{Bor}
-use Rattle.std.specs.List.{AllByRecursion, list_all}
-use Rattle.std.proofs.lemmas.Bool.{and_parts}
-use Rattle.std.proofs.lemmas.List.{length-map, length-reverse, reverse-append, reverse-reverse}
 use Rattle.wit_model.specs.Bytes.{Bytes}
 use Rattle.wit_model.specs.declared.function.Function.{Function}
 use Rattle.wit_model.specs.declared.types.TypeDef.{TypeDef}
 use Rattle.wit_model.specs.declared.wasm_type.WasmType.{WasmType}
 use Rattle.wit_layout.specs.declared.signature.AbiVariant.TheVariants.{GuestImport}
-use Rattle.rust_tree.specs.declared.expr.Expr.{Expr}
-use Rattle.rust_tree.specs.declared.runtime_item.RuntimeItem.{RuntimeItem}
-use Rattle.rust_tree.specs.declared.runtime_item.RuntimeItem.TheVariants.{InvalidEnumDiscriminant}
 use Rattle.rust_tree.specs.declared.stmt.Arm.{Arm}
 use Rattle.rust_tree.specs.declared.stmt.Block.{Block, Block-F}
 use Rattle.rust_tree.specs.declared.stmt.ImportDecl.{ImportDecl}
 use Rattle.rust_tree.specs.declared.stmt.Stmt.{Stmt}
-use Rattle.rust_tree.specs.declared.stmt.Stmt.TheVariants as stmt
 use Rattle.wrapper_run.proofs.StmtSteps.{code-opened}
 use Rattle.abi_bindgen.specs.declared.bindgen.Asked.{Asked}
-use Rattle.abi_bindgen.specs.declared.instruction.Instruction.{Instruction}
-use Rattle.abi_bindgen.specs.declared.instruction.Instruction.TheVariants.{Bitcasts, CallInterface, CallWasm, ConstZero, GuestDeallocateVariant, OptionLift, OptionLower, ResultLift, ResultLower, Return, VariantLift, VariantLower}
+use Rattle.abi_bindgen.specs.declared.instruction.Instruction.TheVariants.{CallWasm, Return}
 use Rattle.abi_bindgen.specs.Calls.{import_params, import_results}
 use Rattle.abi_bindgen.specs.Code.{call_code, pass_code, point_code, read_code}
 use Rattle.abi_bindgen.specs.Sends.{Sends}
-use Rattle.abi_bindgen.specs.Sent.{Sent, asks, closes, opens, sends, sends_casts, sends_zeros}
-use Rattle.abi_bindgen.proofs.InnerSteps.{IsInner, both_inner, depth, is_quiet, pass_inner, point_inner, read_inner, sent_depth}
+use Rattle.abi_bindgen.specs.Sent.{Sent, sends}
+use Rattle.abi_bindgen.proofs.InnerSteps.{IsInner, both_inner, pass_inner, point_inner, read_inner, sent_depth}
 use Rattle.func_gen.specs.declared.body.Body.{Body}
 use Rattle.func_gen.specs.declared.function_bindgen.Code.{Code}
-use Rattle.func_gen.specs.declared.function_bindgen.FinishedBlock.{FinishedBlock}
 use Rattle.func_gen.specs.declared.function_bindgen.FunctionBindgen.{FunctionBindgen}
-use Rattle.func_gen.specs.declared.function_bindgen.OpenBlock.{OpenBlock}
 use Rattle.func_gen.specs.declared.operand.ExprOperand.{ExprOperand}
-use Rattle.func_gen.specs.Added.{Appends}
-use Rattle.func_gen.specs.CallForms.{import_name, import_of, local_path}
-use Rattle.func_gen.specs.CodeOf.{calls_core, emitted}
-use Rattle.func_gen.specs.Emission.{Emission, Writes}
-use Rattle.func_gen.specs.Formed.{BecomesTold, block_of, CallsImported, ClosesBlock, Formed, FreesCases, LiftsCases, LiftsLast, MatchesCases, OpensBlock}
-use Rattle.func_gen.specs.LiftedCases.{LiftsBy, LiftsVariantBy, FreesBy}
-use Rattle.func_gen.specs.MatchForms.{LowersBy, lowered_arms, match_of}
+use Rattle.func_gen.specs.CallForms.{import_name, import_of}
+use Rattle.func_gen.specs.CodeOf.{calls_core}
+use Rattle.func_gen.specs.Emission.{Writes}
+use Rattle.func_gen.specs.Formed.{CallsImported}
 use Rattle.func_gen.specs.Meaning.{func_meaning}
-use Rattle.func_gen.specs.Opened.{is_closed, open_block}
+use Rattle.func_gen.specs.Opened.{is_closed}
 use Rattle.func_gen.specs.PartForms.{exprs_of}
-use Rattle.func_gen.specs.Uses.{Uses}
 use Rattle.func_gen.proofs.StillSent.{still_sent}
 use Rattle.wrapper_closing.specs.Bodies.{MakesImport}
-use Rattle.wrapper_closing.specs.Declares.{DeclaresOne, IsImportOf}
+use Rattle.wrapper_closing.specs.Declares.{DeclaresOne, Import, IsImportOf}
 use Rattle.wrapper_closing.specs.ImportBlock.{block_of as block_with, local_area}
 use Rattle.wrapper_closing.specs.declared.parts.BodyParts.{BodyParts}
-use Rattle.wrapper_closing.proofs.Undeclared.{AreBare, Declare, IsBare, area_one, declare_behind, declare_more, expr_one, frees_bare, import_then, last_bare, let_one, lifts_bare, lowers_bare, no_stmts, told_bare}
+use Rattle.wrapper_closing.proofs.StepsDeclare.{HasDeclared, Outer, closed_is, declares_still, no_more, open_many, outside_of, sent_parts}
+use Rattle.wrapper_closing.proofs.Undeclared.{AreBare, Declare, area_one, declare_behind, expr_one, import_then, let_one, no_stmts}
 
--- 1. What is declared by code that is made
+-- 1. The call
 
--- the statements of open blocks declare none, and no more does the innermost code
-abbrev AreInner : List OpenBlock → List Stmt → Type 0
-AreInner [] stmts = Declare [] stmts
-AreInner (o ∷ opened) stmts = Declare [] o.code.stmts × AreInner opened stmts
-
--- the outermost code declares these
-abbrev Outer : List ImportDecl → List OpenBlock → List Stmt → Type 0
-Outer decls [] stmts = Declare decls stmts
-Outer decls (o ∷ opened) stmts = Declare decls o.code.stmts × AreInner opened stmts
-
-pub record HasDeclared (decls : List ImportDecl) (b : FunctionBindgen) : Type 0 where
-  pub outer : Outer decls b.opened b.code.stmts
-  pub blocks : AreBare b.finished
-
-inner_more : (opened : List OpenBlock) (stmts added : List Stmt) → AreInner opened stmts → Declare [] added → AreInner opened (stmts ++ added)
-inner_more [] stmts added h g = declare_more [] stmts added h g
-inner_more (o ∷ opened) stmts added h g = (h.0, inner_more opened stmts added h.1 g)
-
-outer_more : (decls : List ImportDecl) (opened : List OpenBlock) (stmts added : List Stmt) → Outer decls opened stmts → Declare [] added → Outer decls opened (stmts ++ added)
-outer_more decls [] stmts added h g = declare_more decls stmts added h g
-outer_more decls (o ∷ opened) stmts added h g = (h.0, inner_more opened stmts added h.1 g)
-
-inner_opens : (opened : List OpenBlock) (o : OpenBlock) → AreInner opened o.code.stmts → AreInner (opened ++ o ∷ []) []
-inner_opens [] o h = (h, no_stmts)
-inner_opens (p ∷ opened) o h = (h.0, inner_opens opened o h.1)
-
-outer_opens : (decls : List ImportDecl) (opened : List OpenBlock) (o : OpenBlock) → Outer decls opened o.code.stmts → Outer decls (opened ++ o ∷ []) []
-outer_opens decls [] o h = (h, no_stmts)
-outer_opens decls (p ∷ opened) o h = (h.0, inner_opens opened o h.1)
-
-inner_closes : (opened : List OpenBlock) (o : OpenBlock) (stmts : List Stmt) → AreInner (opened ++ o ∷ []) stmts → AreInner opened o.code.stmts × Declare [] stmts
-inner_closes [] o stmts h = (h.0, h.1)
-inner_closes (p ∷ opened) o stmts h = let rest = inner_closes opened o stmts h.1 in ((h.0, rest.0), rest.1)
-
-outer_closes : (decls : List ImportDecl) (opened : List OpenBlock) (o : OpenBlock) (stmts : List Stmt) → Outer decls (opened ++ o ∷ []) stmts → Outer decls opened o.code.stmts × Declare [] stmts
-outer_closes decls [] o stmts h = (h.0, h.1)
-outer_closes decls (p ∷ opened) o stmts h = let rest = inner_closes opened o stmts h.1 in ((h.0, rest.0), rest.1)
-
--- 2. Blocks that are finished and used up
-
-bare_both : (some others : List FinishedBlock) → AreBare some → AreBare others → AreBare (some ++ others)
-bare_both [] others h g = g
-bare_both (b ∷ some) others h g = (h.0, bare_both some others h.1 g)
-
-bare_first : (some others : List FinishedBlock) → AreBare (some ++ others) → AreBare some
-bare_first [] others h = tt
-bare_first (b ∷ some) others h = (h.0, bare_first some others h.1)
-
-bare_later : (some others : List FinishedBlock) → AreBare (some ++ others) → AreBare others
-bare_later [] others h = h
-bare_later (b ∷ some) others h = bare_later some others h.1
-
-bare_reverse : (blocks : List FinishedBlock) → AreBare blocks → AreBare (reverse blocks)
-bare_reverse [] h = tt
-bare_reverse (b ∷ blocks) h = subst AreBare (sym (reverse-append (b ∷ []) blocks)) (bare_both (reverse blocks) (b ∷ []) (bare_reverse blocks h.1) (h.0, tt))
-
-module _ (decls : List ImportDecl) (old : FunctionBindgen) (h : HasDeclared decls old) where
-  -- statements that declare none are added
-  adds : (new : FunctionBindgen) (added : List Stmt) → new.opened ≡ old.opened → new.code.stmts ≡ old.code.stmts ++ added → Declare [] added → AreBare new.finished → HasDeclared decls new
-  adds new added opened stmts g blocks = record {
-    outer = subst (λ o. Outer decls o new.code.stmts) (sym opened) (subst (Outer decls old.opened) (sym stmts) (outer_more decls old.opened old.code.stmts added h.outer g));
-    blocks = blocks;
-  }
-
-  module _ (used : List FinishedBlock) (n : ℕ) (mid : FunctionBindgen) (uses : Uses used n old mid) where
-    turned : AreBare (used ++ reverse mid.finished)
-    turned = subst AreBare uses.taken (bare_reverse old.finished h.blocks)
-
-    used_bare : AreBare (reverse used)
-    used_bare = bare_reverse used (bare_first used (reverse mid.finished) turned)
-
-    left_bare : AreBare mid.finished
-    left_bare = subst AreBare (reverse-reverse mid.finished) (bare_reverse (reverse mid.finished) (bare_later used (reverse mid.finished) turned))
-
-    -- a match of them is added
-    matches : (new : FunctionBindgen) (added : List Stmt) (items : List RuntimeItem) → Appends mid new added items → Declare [] added → HasDeclared decls new
-    matches new added items a g =
-        adds new added (a.opened ∙ ap (λ (b : FunctionBindgen). b.opened) uses.rest) (a.stmts ∙ ap (λ (b : FunctionBindgen). b.code.stmts ++ added) uses.rest) g (subst AreBare (sym a.finished) left_bare)
-
-  lowered : (cases : _) (e : Expr) (n : ℕ) (names : List Bytes) (new : FunctionBindgen) → LowersBy cases e n names old new → HasDeclared decls new
-  lowered cases e n names new l =
-      matches l.used (length cases) l.mid l.uses new (match_of names e (lowered_arms cases (reverse l.used)) ∷ []) [] l.adds (lowers_bare names e cases (reverse l.used) (used_bare l.used (length cases) l.mid l.uses))
-
-  lifted : (cases : _) (e : Expr) (v : Bytes) (new : FunctionBindgen) → LiftsBy cases e v old new → HasDeclared decls new
-  lifted cases e v new l = matches l.used (length cases) l.mid l.uses new _ (InvalidEnumDiscriminant ∷ []) l.adds (lifts_bare v e cases (reverse l.used) (used_bare l.used (length cases) l.mid l.uses))
-
-  lifted_last : (cases : _) (c : _) (e : Expr) (n v : Bytes) (new : FunctionBindgen) → LiftsVariantBy cases c e n v old new → HasDeclared decls new
-  lifted_last cases c e n v new l =
-      let bare = subst AreBare l.split (used_bare l.used (suc (length cases)) l.mid l.uses) in
-      matches l.used (suc (length cases)) l.mid l.uses new _ [] l.adds (last_bare n v e cases c l.first l.last (bare_first l.first (l.last ∷ []) bare) (bare_later l.first (l.last ∷ []) bare).0)
-
-  freed : (k : ℕ) (e : Expr) (new : FunctionBindgen) → FreesBy k e old new → HasDeclared decls new
-  freed k e new l =
-      let bare = subst AreBare l.split (used_bare l.used (suc k) l.mid l.uses) in
-      matches l.used (suc k) l.mid l.uses new _ [] l.adds (frees_bare e l.first l.last (bare_first l.first (l.last ∷ []) bare) (bare_later l.first (l.last ∷ []) bare).0)
-
-  opened_block : (new : FunctionBindgen) → OpensBlock old new → HasDeclared decls new
-  opened_block new o =
-      let block : OpenBlock = record { number = o.number; names = old.scope.used; code = old.code } in
-      record {
-        outer = subst (λ x. Outer decls new.opened x) (sym (ap (λ (c : Code). c.stmts) o.code)) (subst (λ x. Outer decls x []) (sym o.opened) (outer_opens decls old.opened block h.outer));
-        blocks = subst AreBare (sym o.finished) h.blocks;
-      }
-
-  closed_block : (os : List ExprOperand) (new : FunctionBindgen) → ClosesBlock os old new → HasDeclared decls new
-  closed_block os new c =
-      let parts = outer_closes decls new.opened c.block old.code.stmts (subst (λ x. Outer decls x old.code.stmts) c.opened h.outer) in
-      record {
-        outer = subst (λ (x : Code). Outer decls new.opened x.stmts) (sym c.code) parts.0;
-        blocks = subst AreBare (sym c.finished) (bare_both old.finished (block_of c.block old.code.stmts os ∷ []) h.blocks (parts.1, tt));
-      }
-
-  written : (step : Sent) (os rs : List ExprOperand) (new : FunctionBindgen) → BecomesTold step os rs old new → HasDeclared decls new
-  written step os rs new t =
-      let bare = subst IsBare t.is (told_bare old step (exprs_of os)) in
-      adds new (t.code t.writes.number).stmts t.writes.opened t.writes.stmts (bare t.writes.number) (subst AreBare (sym t.writes.finished) h.blocks)
-
-  -- a step that is no call leaves what is declared
-  step_declares : (types : List TypeDef) (step : Sent) (os rs : List ExprOperand) (new : FunctionBindgen) → is_quiet step ≡ true → Formed types step os rs old new → HasDeclared decls new
-  step_declares types (sends (CallWasm g)) os rs new q f = absurd (let no = q in cc)
-  step_declares types (sends (CallInterface g)) os rs new q f = absurd (let no = q in cc)
-  step_declares types (sends (VariantLower id n)) os rs new q f = let c = f.code in lowered c.forms c.operand n c.names new c.lowers
-  step_declares types (sends (OptionLower id n)) os rs new q f = let c = f.code in lowered c.forms c.operand n c.names new c.lowers
-  step_declares types (sends (ResultLower id n)) os rs new q f = let c = f.code in lowered c.forms c.operand n c.names new c.lowers
-  step_declares types (sends (OptionLift id)) os rs new q f = let c = f.code in lifted c.forms c.operand c.name new c.lifts
-  step_declares types (sends (ResultLift id)) os rs new q f = let c = f.code in lifted c.forms c.operand c.name new c.lifts
-  step_declares types (sends (VariantLift id)) os rs new q f = let c = f.code in lifted_last c.forms c.last c.operand c.number c.name new c.lifts
-  step_declares types (sends (GuestDeallocateVariant n)) os rs new q f = let c = f.code in freed c.first c.operand new c.frees
-  step_declares types opens os rs new q f = opened_block new f.code
-  step_declares types closes os rs new q f = closed_block os new f.code
-  step_declares types step os rs new q f = written step os rs new f.code
-
--- 3. Steps
-
-declares_still : (types : List TypeDef) (decls : List ImportDecl) (steps : List Sent) (old new : FunctionBindgen) → list_all is_quiet steps ≡ true → Sends func_meaning types steps old new → HasDeclared decls old → HasDeclared decls new
-declares_still types decls [] old new q h d = subst (HasDeclared decls) (sym h) d
-declares_still types decls (sends i ∷ steps) old new q (os, rs, next, e, more) d =
-    let both = and_parts (is_quiet (sends i)) (list_all is_quiet steps) q in declares_still types decls steps next new both.1 more (step_declares decls old d types (sends i) os rs next both.0 e.form)
-declares_still types decls (asks a ∷ steps) old new q (o, next, p, more) d = declares_still types decls steps next new q more (step_declares decls old d types (asks a) [] (o ∷ []) next refl (p.form types))
-declares_still types decls (opens ∷ steps) old new q (next, p, more) d = declares_still types decls steps next new q more (step_declares decls old d types opens [] [] next refl (p.form types))
-declares_still types decls (closes ∷ steps) old new q (os, next, p, more) d = declares_still types decls steps next new q more (step_declares decls old d types closes os [] next refl (p.form types))
-declares_still types decls (sends_casts casts ∷ steps) old new q (held, same, os, rs, next, e, more) d = declares_still types decls steps next new q more (step_declares decls old d types (sends (Bitcasts held)) os rs next refl e.form)
-declares_still types decls (sends_zeros zeros ∷ steps) old new q (held, same, os, rs, next, e, more) d = declares_still types decls steps next new q more (step_declares decls old d types (sends (ConstZero held)) os rs next refl e.form)
-
--- what was sent first, and then the rest
-sent_parts : (types : List TypeDef) (steps later : List Sent) (old new : FunctionBindgen) → Sends func_meaning types (steps ++ later) old new → (mid : FunctionBindgen) × Sends func_meaning types steps old mid × Sends func_meaning types later mid new
-sent_parts types [] later old new h = (old, refl, h)
-sent_parts types (sends i ∷ steps) later old new (os, rs, next, e, more) = let (mid, one, two) = sent_parts types steps later next new more in (mid, (os, rs, next, e, one), two)
-sent_parts types (asks a ∷ steps) later old new (o, next, p, more) = let (mid, one, two) = sent_parts types steps later next new more in (mid, (o, next, p, one), two)
-sent_parts types (opens ∷ steps) later old new (next, p, more) = let (mid, one, two) = sent_parts types steps later next new more in (mid, (next, p, one), two)
-sent_parts types (closes ∷ steps) later old new (os, next, p, more) = let (mid, one, two) = sent_parts types steps later next new more in (mid, (os, next, p, one), two)
-sent_parts types (sends_casts casts ∷ steps) later old new (held, same, os, rs, next, e, more) = let (mid, one, two) = sent_parts types steps later next new more in (mid, (held, same, os, rs, next, e, one), two)
-sent_parts types (sends_zeros zeros ∷ steps) later old new (held, same, os, rs, next, e, more) = let (mid, one, two) = sent_parts types steps later next new more in (mid, (held, same, os, rs, next, e, one), two)
-
--- 4. The call
-
-outside_of : (decls : List ImportDecl) (b : FunctionBindgen) → b.opened ≡ [] → HasDeclared decls b → Declare decls b.code.stmts
-outside_of decls b none h = subst (λ o. Outer decls o b.code.stmts) none h.outer
-
-call_declares : (types : List TypeDef) (f : Function) (os rs : List ExprOperand) (old new : FunctionBindgen) → old.opened ≡ [] → HasDeclared [] old → CallsImported types f os rs old new → (decl : ImportDecl) × IsImportOf types old.home f decl × HasDeclared (decl ∷ []) new
+call_declares : (types : List TypeDef) (f : Function) (os rs : List ExprOperand) (old new : FunctionBindgen) → old.opened ≡ [] → HasDeclared Import [] old → CallsImported types f os rs old new → (decl : ImportDecl) × IsImportOf types old.home f decl × HasDeclared Import (decl ∷ []) new
 call_declares types f os rs old new none h c = go c.answer c.answers c.writes
   where
-    before : Declare [] old.code.stmts
-    before = outside_of [] old none h
+    before : Declare Import [] old.code.stmts
+    before = outside_of Import [] old none h
 
-    after : (d : ImportDecl) (added : List Stmt) → Declare (d ∷ []) added → new.code.stmts ≡ old.code.stmts ++ added → new.opened ≡ old.opened → new.finished ≡ old.finished → HasDeclared (d ∷ []) new
+    after : (d : ImportDecl) (added : List Stmt) → Declare Import (d ∷ []) added → new.code.stmts ≡ old.code.stmts ++ added → new.opened ≡ old.opened → new.finished ≡ old.finished → HasDeclared Import (d ∷ []) new
     after d added g stmts opened finished = record {
-      outer = subst (λ o. Outer (d ∷ []) o new.code.stmts) (sym (opened ∙ none)) (subst (Declare (d ∷ [])) (sym stmts) (declare_behind (d ∷ []) old.code.stmts added before g));
-      blocks = subst AreBare (sym finished) h.blocks;
+      outer = subst (λ o. Outer Import (d ∷ []) o new.code.stmts) (sym (opened ∙ none)) (subst (Declare Import (d ∷ [])) (sym stmts) (declare_behind Import (d ∷ []) old.code.stmts added before g));
+      blocks = subst (AreBare Import) (sym finished) h.blocks;
     }
 
-    go : (answer : Option WasmType) → option_to_list answer ≡ import_results types f → Writes (calls_core old f (import_params types f) answer (exprs_of os)) rs old new → (decl : ImportDecl) × IsImportOf types old.home f decl × HasDeclared (decl ∷ []) new
+    go : (answer : Option WasmType) → option_to_list answer ≡ import_results types f → Writes (calls_core old f (import_params types f) answer (exprs_of os)) rs old new → (decl : ImportDecl) × IsImportOf types old.home f decl × HasDeclared Import (decl ∷ []) new
     go None answers w =
         let t = w.number in
         let d = import_of old.home f (import_params types f) None (import_name t) in
-        (d, record { of_home = refl; of_name = refl; params = refl; answer = answers }, after d _ (import_then d _ (expr_one _)) w.stmts w.opened w.finished)
+        (d, record { of_home = refl; of_name = refl; params = refl; answer = answers }, after d _ (import_then Import d _ (expr_one Import _)) w.stmts w.opened w.finished)
     go (Some ty) answers w =
         let t = w.number in
         let d = import_of old.home f (import_params types f) (Some ty) (import_name t) in
-        (d, record { of_home = refl; of_name = refl; params = refl; answer = answers }, after d _ (import_then d _ (let_one _ _)) w.stmts w.opened w.finished)
+        (d, record { of_home = refl; of_name = refl; params = refl; answer = answers }, after d _ (import_then Import d _ (let_one Import _ _)) w.stmts w.opened w.finished)
 
--- 5. The whole code of an import
-
-no_more : {A : Type 0} (xs : List A) → length xs ≡ 0 → xs ≡ []
-no_more [] h = refl
-no_more (x ∷ xs) h = absurd (let no = h in cc)
-
-closed_is : (opened : List OpenBlock) → is_closed opened ≡ true → opened ≡ []
-closed_is [] h = refl
-closed_is (o ∷ opened) h = absurd (let no = h in cc)
-
--- how many blocks are open
-open_many : (b : FunctionBindgen) → length (func_meaning.opened b) ≡ length b.opened
-open_many b = length-map (reverse b.opened) open_block ∙ length-reverse b.opened
+-- 2. The whole code of an import
 
 module _ (types : List TypeDef) (func : Bor Function) (old new : FunctionBindgen) (h : Sends func_meaning types (call_code types GuestImport func) old new) (closed : is_closed new.opened ≡ true) where
   abbrev before : List Sent
@@ -278,24 +94,24 @@ module _ (types : List TypeDef) (func : Bor Function) (old new : FunctionBindgen
       no_more old.opened
       (sym (open_many old) ∙ sym (before_inner.nested (length (func_meaning.opened old))) ∙ sym (sent_depth func_meaning types before old parts.0 parts.1) ∙ open_many parts.0 ∙ ap length none_open)
 
-  code_declares : old.code.stmts ≡ [] → old.finished ≡ [] → (decl : ImportDecl) × IsImportOf types old.home func.now decl × Declare (decl ∷ []) new.code.stmts
+  code_declares : old.code.stmts ≡ [] → old.finished ≡ [] → (decl : ImportDecl) × IsImportOf types old.home func.now decl × Declare Import (decl ∷ []) new.code.stmts
   code_declares empty unfinished =
-      let begins : HasDeclared [] old = record { outer = subst (λ o. Outer [] o old.code.stmts) (sym none_before) (subst (Declare []) (sym empty) no_stmts); blocks = subst AreBare (sym unfinished) tt } in
+      let begins : HasDeclared Import [] old = record { outer = subst (λ o. Outer Import [] o old.code.stmts) (sym none_before) (subst (Declare Import []) (sym empty) (no_stmts Import)); blocks = subst (AreBare Import) (sym unfinished) tt } in
       let (mid, sent, rest) = parts in
       let (os, rs, next, e, more) = rest in
-      let (decl, is, has) = call_declares types func.now os rs mid next none_open (declares_still types [] before old mid before_inner.quiet sent begins) e.form.code in
-      let ends = declares_still types (decl ∷ []) after next new after_inner.quiet more has in
-      (decl, subst (λ home. IsImportOf types home func.now decl) (still_sent types before old mid sent).home is, outside_of (decl ∷ []) new (closed_is new.opened closed) ends)
+      let (decl, is, has) = call_declares types func.now os rs mid next none_open (declares_still Import types [] before old mid before_inner.quiet sent begins) e.form.code in
+      let ends = declares_still Import types (decl ∷ []) after next new after_inner.quiet more has in
+      (decl, subst (λ home. IsImportOf types home func.now decl) (still_sent types before old mid sent).home is, outside_of Import (decl ∷ []) new (closed_is new.opened closed) ends)
 
--- 6. The block of the body, with its area in front
+-- 3. The block of the body, with its area in front
 
-area_before : (name : Bytes) (area : Option Asked) → Declare [] (local_area name area)
-area_before name None = no_stmts
+area_before : (name : Bytes) (area : Option Asked) → Declare Import [] (local_area name area)
+area_before name None = no_stmts Import
 area_before name (Some a) = area_one (record { name = name; size = a.size; align = a.align })
 
 pub import_body_declares : (types : List TypeDef) (func : Bor Function) (parts : BodyParts) (body : Body) → MakesImport types func parts body → DeclaresOne types parts.home func.now (block_with parts.area body).stmts
 import_body_declares types func parts body m =
     let (decl, is, has) = code_declares types func m.old m.new m.sends m.body_of.closed (ap (λ (c : Code). c.stmts) m.made.empty) m.made.unfinished in
-    let whole = declare_behind (decl ∷ []) (local_area parts.area body.area) body.stmts (area_before parts.area body.area) (subst (Declare (decl ∷ [])) (sym m.body_of.stmts) has) in
+    let whole = declare_behind Import (decl ∷ []) (local_area parts.area body.area) body.stmts (area_before parts.area body.area) (subst (Declare Import (decl ∷ [])) (sym m.body_of.stmts) has) in
     let same : (block_with parts.area body).stmts ≡ local_area parts.area body.area ++ body.stmts = ap (λ (l : Block-F Stmt Arm Block). l.stmts) (code-opened (local_area parts.area body.area ++ body.stmts) body.tail) in
     subst (DeclaresOne types parts.home func.now) (sym same) (decl, whole.outside, subst (λ home. IsImportOf types home func.now decl) m.made.of_home is, whole.arms)

@@ -3,12 +3,14 @@ pub mod AreaRoom
 pub mod Args
 pub mod Arguments
 pub mod BodyAreas
+pub mod CallsKept
 pub mod CaseInstances
 pub mod ClosedArea
 pub mod DeclaresLemmas
 pub mod Direct
 pub mod ExportBodyCloses
 pub mod ExportCalls
+pub mod ExportDeclares
 pub mod ExportEnds
 pub mod ExportPlaced
 pub mod ExportStart
@@ -34,10 +36,12 @@ pub mod PrintedAnswers
 pub mod PrintedArguments
 pub mod PrintedInstances
 pub mod PrintedValues
+pub mod Returned
 pub mod ReturnedFrees
 pub mod SettledDirect
 pub mod SharedArea
 pub mod Start
+pub mod StepsDeclare
 pub mod TwoWords
 pub mod TypedCases
 pub mod Unasking

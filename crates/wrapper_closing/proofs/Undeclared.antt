@@ -1,4 +1,4 @@
--- What steps that are no calls add declares no core import, also in the arms of its matches.
+-- What steps that are no calls add declares no area and no core import, also in the arms of its matches.
 use Rattle.std.proofs.Common.{◌≡◌, ℕ, suc, Bool, true, false, ◌&&◌, List, [], ◌∷◌, ◌++◌, length, map, Option, None, Some, ◌+◌, refl, sym, ap, ap₂, ◌∙◌, append-nil}
 use Rattle.std.specs.Prelude.{option_and_then, option_map, slice_get}
 use Rattle.std.specs.List.{AllByRecursion, list_all}
@@ -48,251 +48,253 @@ use Rattle.func_gen.specs.Opened.{innermost}
 use Rattle.func_gen.specs.PartForms.{exprs_of, names_from, part_name}
 use Rattle.func_gen.specs.RecordForms.{record_at}
 use Rattle.func_gen.specs.Slot.{slot_name}
-use Rattle.wrapper_closing.specs.declared.declares.Declaration.TheVariants.{Import}
-use Rattle.wrapper_closing.specs.Declares.{arm_without_step, arms_declare_none, block_without_step, declare_none, declared, declared_by, has_arms_without, has_arms_without_in, is_arm_without, is_block_without, is_without, without_step}
+use Rattle.wrapper_closing.specs.Declares.{Declaration, Import, arm_without_step, arms_declare_none, block_without_step, declare_none, declared, declared_by, has_arms_without, has_arms_without_in, is_arm_without, is_block_without, is_without, without_step}
 use Rattle.wrapper_closing.proofs.DeclaresLemmas.{without-arm, without-block, without-match}
 
 -- 1. Statements
 
--- statements declare these core imports and no other, in arms neither
-pub record Declare (decls : List ImportDecl) (stmts : List Stmt) : Type 0 where
-  pub outside : declared stmts ≡ decls
-  pub arms : arms_declare_none Import stmts ≡ true
-  pub none : decls ≡ [] → declare_none Import stmts ≡ true
+module _ (what : Declaration) where
+  -- statements declare these core imports and no other, and in arms nothing of the kind
+  pub record Declare (decls : List ImportDecl) (stmts : List Stmt) : Type 0 where
+    pub outside : declared stmts ≡ decls
+    pub arms : arms_declare_none what stmts ≡ true
+    pub none : decls ≡ [] → declare_none what stmts ≡ true
 
-pub no_stmts : Declare [] []
-no_stmts = record { outside = refl; arms = refl; none = λ e. refl }
+  pub no_stmts : Declare [] []
+  no_stmts = record { outside = refl; arms = refl; none = λ e. refl }
 
-pub declare_more : (decls : List ImportDecl) (stmts added : List Stmt) → Declare decls stmts → Declare [] added → Declare decls (stmts ++ added)
-declare_more decls stmts added h g = record {
-  outside = flat_map-append declared_by stmts added ∙ ap₂ (λ (a b : List ImportDecl). a ++ b) h.outside g.outside ∙ append-nil decls;
-  arms = list_all-append (has_arms_without Import) stmts added ∙ ap₂ (λ a b. a && b) h.arms g.arms;
-  none = λ e. list_all-append (is_without Import) stmts added ∙ ap₂ (λ a b. a && b) (h.none e) (g.none refl);
-}
-
--- the same of statements that stand before others
-pub declare_behind : (decls : List ImportDecl) (stmts added : List Stmt) → Declare [] stmts → Declare decls added → Declare decls (stmts ++ added)
-declare_behind decls stmts added h g = record {
-  outside = flat_map-append declared_by stmts added ∙ ap₂ (λ (a b : List ImportDecl). a ++ b) h.outside g.outside;
-  arms = list_all-append (has_arms_without Import) stmts added ∙ ap₂ (λ a b. a && b) h.arms g.arms;
-  none = λ e. list_all-append (is_without Import) stmts added ∙ ap₂ (λ a b. a && b) (h.none refl) (g.none e);
-}
-
-declare_then : (s : Stmt) (stmts : List Stmt) → Declare [] (s ∷ []) → Declare [] stmts → Declare [] (s ∷ stmts)
-declare_then s stmts h g = declare_behind [] (s ∷ []) stmts h g
-
--- a statement that is neither a declaration nor a match
-module _ (x : Stmt-F Stmt Arm Block) (s : Stmt) (e : roll-Stmt x ≡ s) where
-  plain_one : declared_by s ≡ [] → has_arms_without_in Import x ≡ true → is_without Import (roll-Stmt x) ≡ true → Declare [] (s ∷ [])
-  plain_one none arms without = record {
-    outside = ap (λ (ds : List ImportDecl). ds ++ []) none;
-    arms = ap (λ b. b && true) (ap (has_arms_without Import) (sym e) ∙ ap (has_arms_without_in Import) (out-roll-Stmt x) ∙ arms);
-    none = λ h. ap (λ b. b && true) (ap (is_without Import) (sym e) ∙ without);
+  pub declare_more : (decls : List ImportDecl) (stmts added : List Stmt) → Declare decls stmts → Declare [] added → Declare decls (stmts ++ added)
+  declare_more decls stmts added h g = record {
+    outside = flat_map-append declared_by stmts added ∙ ap₂ (λ (a b : List ImportDecl). a ++ b) h.outside g.outside ∙ append-nil decls;
+    arms = list_all-append (has_arms_without what) stmts added ∙ ap₂ (λ a b. a && b) h.arms g.arms;
+    none = λ e. list_all-append (is_without what) stmts added ∙ ap₂ (λ a b. a && b) (h.none e) (g.none refl);
   }
 
-pub let_one : (n : Bytes) (e : Expr) → Declare [] (stmt.Let n e ∷ [])
-let_one n e = plain_one (Stmt-F.Let n e) (stmt.Let n e) (rolls-Let n e) refl refl (fold-roll-Stmt Bool Bool Bool (without_step Import) arm_without_step block_without_step (Stmt-F.Let n e))
+  -- the same of statements that stand before others
+  pub declare_behind : (decls : List ImportDecl) (stmts added : List Stmt) → Declare [] stmts → Declare decls added → Declare decls (stmts ++ added)
+  declare_behind decls stmts added h g = record {
+    outside = flat_map-append declared_by stmts added ∙ ap₂ (λ (a b : List ImportDecl). a ++ b) h.outside g.outside;
+    arms = list_all-append (has_arms_without what) stmts added ∙ ap₂ (λ a b. a && b) h.arms g.arms;
+    none = λ e. list_all-append (is_without what) stmts added ∙ ap₂ (λ a b. a && b) (h.none refl) (g.none e);
+  }
 
-pub expr_one : (e : Expr) → Declare [] (stmt.Expr e ∷ [])
-expr_one e = plain_one (Stmt-F.Expr e) (stmt.Expr e) (rolls-Expr e) refl refl (fold-roll-Stmt Bool Bool Bool (without_step Import) arm_without_step block_without_step (Stmt-F.Expr e))
+  declare_then : (s : Stmt) (stmts : List Stmt) → Declare [] (s ∷ []) → Declare [] stmts → Declare [] (s ∷ stmts)
+  declare_then s stmts h g = declare_behind [] (s ∷ []) stmts h g
 
-store_one : (address : Expr) (o : ArchitectureSize) (ty : WasmType) (e : Expr) → Declare [] (stmt.Store address o ty e ∷ [])
-store_one address o ty e = plain_one (Stmt-F.Store address o ty e) (stmt.Store address o ty e) (rolls-Store address o ty e) refl refl (fold-roll-Stmt Bool Bool Bool (without_step Import) arm_without_step block_without_step (Stmt-F.Store address o ty e))
+  -- a statement that is neither a declaration nor a match
+  module _ (x : Stmt-F Stmt Arm Block) (s : Stmt) (e : roll-Stmt x ≡ s) where
+    plain_one : declared_by s ≡ [] → has_arms_without_in what x ≡ true → is_without what (roll-Stmt x) ≡ true → Declare [] (s ∷ [])
+    plain_one none arms without = record {
+      outside = ap (λ (ds : List ImportDecl). ds ++ []) none;
+      arms = ap (λ b. b && true) (ap (has_arms_without what) (sym e) ∙ ap (has_arms_without_in what) (out-roll-Stmt x) ∙ arms);
+      none = λ h. ap (λ b. b && true) (ap (is_without what) (sym e) ∙ without);
+    }
 
-small_one : (address : Expr) (o : ArchitectureSize) (ty : SmallType) (e : Expr) → Declare [] (stmt.StoreSmall address o ty e ∷ [])
-small_one address o ty e = plain_one (Stmt-F.StoreSmall address o ty e) (stmt.StoreSmall address o ty e) (rolls-StoreSmall address o ty e) refl refl (fold-roll-Stmt Bool Bool Bool (without_step Import) arm_without_step block_without_step (Stmt-F.StoreSmall address o ty e))
+  pub let_one : (n : Bytes) (e : Expr) → Declare [] (stmt.Let n e ∷ [])
+  let_one n e = plain_one (Stmt-F.Let n e) (stmt.Let n e) (rolls-Let n e) refl refl (fold-roll-Stmt Bool Bool Bool (without_step what) arm_without_step block_without_step (Stmt-F.Let n e))
 
-parts_one : (p : Pattern) (e : Expr) → Declare [] (stmt.LetParts p e ∷ [])
-parts_one p e = plain_one (Stmt-F.LetParts p e) (stmt.LetParts p e) (rolls-LetParts p e) refl refl (fold-roll-Stmt Bool Bool Bool (without_step Import) arm_without_step block_without_step (Stmt-F.LetParts p e))
+  pub expr_one : (e : Expr) → Declare [] (stmt.Expr e ∷ [])
+  expr_one e = plain_one (Stmt-F.Expr e) (stmt.Expr e) (rolls-Expr e) refl refl (fold-roll-Stmt Bool Bool Bool (without_step what) arm_without_step block_without_step (Stmt-F.Expr e))
 
-slot_one : (n : Bytes) → Declare [] (stmt.LetSlot n ∷ [])
-slot_one n = plain_one (Stmt-F.LetSlot n) (stmt.LetSlot n) (rolls-LetSlot n) refl refl (fold-roll-Stmt Bool Bool Bool (without_step Import) arm_without_step block_without_step (Stmt-F.LetSlot n))
+  store_one : (address : Expr) (o : ArchitectureSize) (ty : WasmType) (e : Expr) → Declare [] (stmt.Store address o ty e ∷ [])
+  store_one address o ty e = plain_one (Stmt-F.Store address o ty e) (stmt.Store address o ty e) (rolls-Store address o ty e) refl refl (fold-roll-Stmt Bool Bool Bool (without_step what) arm_without_step block_without_step (Stmt-F.Store address o ty e))
 
-write_one : (n : Bytes) (e : Expr) → Declare [] (stmt.WriteSlot n e ∷ [])
-write_one n e = plain_one (Stmt-F.WriteSlot n e) (stmt.WriteSlot n e) (rolls-WriteSlot n e) refl refl (fold-roll-Stmt Bool Bool Bool (without_step Import) arm_without_step block_without_step (Stmt-F.WriteSlot n e))
+  small_one : (address : Expr) (o : ArchitectureSize) (ty : SmallType) (e : Expr) → Declare [] (stmt.StoreSmall address o ty e ∷ [])
+  small_one address o ty e = plain_one (Stmt-F.StoreSmall address o ty e) (stmt.StoreSmall address o ty e) (rolls-StoreSmall address o ty e) refl refl (fold-roll-Stmt Bool Bool Bool (without_step what) arm_without_step block_without_step (Stmt-F.StoreSmall address o ty e))
 
-assert_one : (n : Bytes) (k : ℕ) → Declare [] (stmt.AssertLast n k ∷ [])
-assert_one n k = plain_one (Stmt-F.AssertLast n k) (stmt.AssertLast n k) (rolls-AssertLast n k) refl refl (fold-roll-Stmt Bool Bool Bool (without_step Import) arm_without_step block_without_step (Stmt-F.AssertLast n k))
+  parts_one : (p : Pattern) (e : Expr) → Declare [] (stmt.LetParts p e ∷ [])
+  parts_one p e = plain_one (Stmt-F.LetParts p e) (stmt.LetParts p e) (rolls-LetParts p e) refl refl (fold-roll-Stmt Bool Bool Bool (without_step what) arm_without_step block_without_step (Stmt-F.LetParts p e))
 
-pub area_one : (a : ReturnArea) → Declare [] (stmt.Area a ∷ [])
-area_one a = plain_one (Stmt-F.Area a) (stmt.Area a) (rolls-Area a) refl refl (fold-roll-Stmt Bool Bool Bool (without_step Import) arm_without_step block_without_step (Stmt-F.Area a))
+  slot_one : (n : Bytes) → Declare [] (stmt.LetSlot n ∷ [])
+  slot_one n = plain_one (Stmt-F.LetSlot n) (stmt.LetSlot n) (rolls-LetSlot n) refl refl (fold-roll-Stmt Bool Bool Bool (without_step what) arm_without_step block_without_step (Stmt-F.LetSlot n))
 
--- a declaration, and a statement behind it
-pub import_then : (d : ImportDecl) (s : Stmt) → Declare [] (s ∷ []) → Declare (d ∷ []) (stmt.Import d ∷ s ∷ [])
-import_then d s h = record {
-  outside = ap (λ ds. d ∷ ds) h.outside;
-  arms = ap (λ b. b && arms_declare_none Import (s ∷ [])) (ap (has_arms_without Import) (sym (rolls-Import d)) ∙ ap (has_arms_without_in Import) (out-roll-Stmt (Stmt-F.Import d))) ∙ h.arms;
-  none = λ e. absurd (let no = e in cc);
-}
+  write_one : (n : Bytes) (e : Expr) → Declare [] (stmt.WriteSlot n e ∷ [])
+  write_one n e = plain_one (Stmt-F.WriteSlot n e) (stmt.WriteSlot n e) (rolls-WriteSlot n e) refl refl (fold-roll-Stmt Bool Bool Bool (without_step what) arm_without_step block_without_step (Stmt-F.WriteSlot n e))
 
--- 2. Matches
+  assert_one : (n : Bytes) (k : ℕ) → Declare [] (stmt.AssertLast n k ∷ [])
+  assert_one n k = plain_one (Stmt-F.AssertLast n k) (stmt.AssertLast n k) (rolls-AssertLast n k) refl refl (fold-roll-Stmt Bool Bool Bool (without_step what) arm_without_step block_without_step (Stmt-F.AssertLast n k))
 
-code_without : (stmts : List Stmt) (tail : Option Expr) → Declare [] stmts → is_block_without Import (code_of stmts tail) ≡ true
-code_without stmts tail h = without-block Import (code_of stmts tail) ∙ ap (λ (l : Block-F Stmt Arm Block). declare_none Import l.stmts) (code-opened stmts tail) ∙ h.none refl
+  -- a declaration, and a statement behind it
+  pub import_then : (d : ImportDecl) (s : Stmt) → Declare [] (s ∷ []) → Declare (d ∷ []) (stmt.Import d ∷ s ∷ [])
+  import_then d s h = record {
+    outside = ap (λ ds. d ∷ ds) h.outside;
+    arms = ap (λ b. b && arms_declare_none what (s ∷ [])) (ap (has_arms_without what) (sym (rolls-Import d)) ∙ ap (has_arms_without_in what) (out-roll-Stmt (Stmt-F.Import d))) ∙ h.arms;
+    none = λ e. absurd (let no = e in cc);
+  }
 
-arm_without : (p : ArmPattern) (b : Block) → is_block_without Import b ≡ true → is_arm_without Import (arm_of p b) ≡ true
-arm_without p b h = without-arm Import (arm_of p b) ∙ ap (λ (l : Arm-F Stmt Arm Block). is_block_without Import l.body) (out-roll-Arm (open_arm p b)) ∙ h
+  -- 2. Matches
 
-match_one : (names : MatchNames) (e : Expr) (arms : List Arm) → list_all (is_arm_without Import) arms ≡ true → Declare [] (stmt.Match names e arms ∷ [])
-match_one names e arms h = record {
-  outside = refl;
-  arms = ap (λ x. has_arms_without_in Import x && true) (ap out-Stmt (sym (rolls-Match names e arms)) ∙ out-roll-Stmt (Stmt-F.Match names e arms)) ∙ ap (λ b. b && true) h;
-  none = λ eq. ap (λ b. b && true) (without-match Import names e arms ∙ h);
-}
+  code_without : (stmts : List Stmt) (tail : Option Expr) → Declare [] stmts → is_block_without what (code_of stmts tail) ≡ true
+  code_without stmts tail h = without-block what (code_of stmts tail) ∙ ap (λ (l : Block-F Stmt Arm Block). declare_none what l.stmts) (code-opened stmts tail) ∙ h.none refl
 
--- blocks whose statements declare no core import
-abbrev pub AreBare : List FinishedBlock → Type 0
-AreBare blocks = AllByRecursion (λ (b : FinishedBlock). Declare [] b.stmts) blocks
+  arm_without : (p : ArmPattern) (b : Block) → is_block_without what b ≡ true → is_arm_without what (arm_of p b) ≡ true
+  arm_without p b h = without-arm what (arm_of p b) ∙ ap (λ (l : Arm-F Stmt Arm Block). is_block_without what l.body) (out-roll-Arm (open_arm p b)) ∙ h
 
-lowered_without : (cases : _) (blocks : List FinishedBlock) → AreBare blocks → list_all (is_arm_without Import) (lowered_arms cases blocks) ≡ true
-lowered_without [] blocks h = refl
-lowered_without (c ∷ cases) [] h = refl
-lowered_without (c ∷ cases) (b ∷ blocks) h =
-    ap₂ (λ x y. x && y) (arm_without (case_pattern c b.number) (lowered_body b) (code_without b.stmts (tail_of (exprs_of b.results)) h.0)) (lowered_without cases blocks h.1)
+  match_one : (names : MatchNames) (e : Expr) (arms : List Arm) → list_all (is_arm_without what) arms ≡ true → Declare [] (stmt.Match names e arms ∷ [])
+  match_one names e arms h = record {
+    outside = refl;
+    arms = ap (λ x. has_arms_without_in what x && true) (ap out-Stmt (sym (rolls-Match names e arms)) ∙ out-roll-Stmt (Stmt-F.Match names e arms)) ∙ ap (λ b. b && true) h;
+    none = λ eq. ap (λ b. b && true) (without-match what names e arms ∙ h);
+  }
 
-pub lowers_bare : (names : List Bytes) (e : Expr) (cases : _) (blocks : List FinishedBlock) → AreBare blocks → Declare [] (match_of names e (lowered_arms cases blocks) ∷ [])
-lowers_bare names e cases blocks h = match_one (match_names names) e (lowered_arms cases blocks) (lowered_without cases blocks h)
+  -- blocks whose statements declare no core import
+  abbrev pub AreBare : List FinishedBlock → Type 0
+  AreBare blocks = AllByRecursion (λ (b : FinishedBlock). Declare [] b.stmts) blocks
 
-bodies_without : (cases : _) (blocks : List FinishedBlock) → AreBare blocks → list_all (is_block_without Import) (lifted_bodies cases blocks) ≡ true
-bodies_without [] blocks h = refl
-bodies_without (c ∷ cases) [] h = refl
-bodies_without (c ∷ cases) (b ∷ blocks) h = ap₂ (λ x y. x && y) (code_without b.stmts (Some (case_expr (is_unit c) (case_path c) (exprs_of b.results))) h.0) (bodies_without cases blocks h.1)
+  lowered_without : (cases : _) (blocks : List FinishedBlock) → AreBare blocks → list_all (is_arm_without what) (lowered_arms cases blocks) ≡ true
+  lowered_without [] blocks h = refl
+  lowered_without (c ∷ cases) [] h = refl
+  lowered_without (c ∷ cases) (b ∷ blocks) h =
+      ap₂ (λ x y. x && y) (arm_without (case_pattern c b.number) (lowered_body b) (code_without b.stmts (tail_of (exprs_of b.results)) h.0)) (lowered_without cases blocks h.1)
 
-freed_without : (blocks : List FinishedBlock) → AreBare blocks → list_all (is_block_without Import) (map freed_body blocks) ≡ true
-freed_without [] h = refl
-freed_without (b ∷ blocks) h = ap₂ (λ x y. x && y) (code_without b.stmts None h.0) (freed_without blocks h.1)
+  pub lowers_bare : (names : List Bytes) (e : Expr) (cases : _) (blocks : List FinishedBlock) → AreBare blocks → Declare [] (match_of names e (lowered_arms cases blocks) ∷ [])
+  lowers_bare names e cases blocks h = match_one (match_names names) e (lowered_arms cases blocks) (lowered_without cases blocks h)
 
-numbers_without : (k : ℕ) (bodies : List Block) → list_all (is_block_without Import) bodies ≡ true → list_all (is_arm_without Import) (numbered_arms k bodies) ≡ true
-numbers_without k [] h = refl
-numbers_without k (b ∷ bodies) h =
-    let both = and_parts (is_block_without Import b) (list_all (is_block_without Import) bodies) h in
-    ap₂ (λ x y. x && y) (arm_without (arm.Number k) b both.0) (numbers_without (suc k) bodies both.1)
+  bodies_without : (cases : _) (blocks : List FinishedBlock) → AreBare blocks → list_all (is_block_without what) (lifted_bodies cases blocks) ≡ true
+  bodies_without [] blocks h = refl
+  bodies_without (c ∷ cases) [] h = refl
+  bodies_without (c ∷ cases) (b ∷ blocks) h = ap₂ (λ x y. x && y) (code_without b.stmts (Some (case_expr (is_unit c) (case_path c) (exprs_of b.results))) h.0) (bodies_without cases blocks h.1)
 
--- arms by numbers, and another behind them
-pub numbers_bare : (names : MatchNames) (e : Expr) (bodies : List Block) (p : ArmPattern) (last : Block) → list_all (is_block_without Import) bodies ≡ true → is_block_without Import last ≡ true → Declare [] (stmt.Match names e (number_arms 0 bodies (arm_of p last)) ∷ [])
-numbers_bare names e bodies p last h g =
-    match_one names e (number_arms 0 bodies (arm_of p last))
-    (list_all-append (is_arm_without Import) (numbered_arms 0 bodies) (arm_of p last ∷ []) ∙ ap₂ (λ x y. x && (y && true)) (numbers_without 0 bodies h) (arm_without p last g))
+  freed_without : (blocks : List FinishedBlock) → AreBare blocks → list_all (is_block_without what) (map freed_body blocks) ≡ true
+  freed_without [] h = refl
+  freed_without (b ∷ blocks) h = ap₂ (λ x y. x && y) (code_without b.stmts None h.0) (freed_without blocks h.1)
 
-pub lifts_bare : (v : Bytes) (e : Expr) (cases : _) (blocks : List FinishedBlock) → AreBare blocks → Declare [] (stmt.Match (names_of.One v) e (number_arms 0 (lifted_bodies cases blocks) (arm_of arm.AnyOther invalid_body)) ∷ [])
-lifts_bare v e cases blocks h =
-    numbers_bare (names_of.One v) e (lifted_bodies cases blocks) arm.AnyOther invalid_body (bodies_without cases blocks h) (code_without [] (Some (expr.Call (runtime_path InvalidEnumDiscriminant) [])) no_stmts)
+  numbers_without : (k : ℕ) (bodies : List Block) → list_all (is_block_without what) bodies ≡ true → list_all (is_arm_without what) (numbered_arms k bodies) ≡ true
+  numbers_without k [] h = refl
+  numbers_without k (b ∷ bodies) h =
+      let both = and_parts (is_block_without what b) (list_all (is_block_without what) bodies) h in
+      ap₂ (λ x y. x && y) (arm_without (arm.Number k) b both.0) (numbers_without (suc k) bodies both.1)
 
-pub last_bare : (n v : Bytes) (e : Expr) (cases : _) (c : _) (first : List FinishedBlock) (last : FinishedBlock) → AreBare first → Declare [] last.stmts
-    → Declare [] (stmt.Match (names_of.One v) e (number_arms 0 (lifted_bodies cases first) (arm_of (arm.Name n) (last_body n (length cases) c last))) ∷ [])
-last_bare n v e cases c first last h g =
-    numbers_bare (names_of.One v) e (lifted_bodies cases first) (arm.Name n) (last_body n (length cases) c last) (bodies_without cases first h)
-    (code_without (stmt.AssertLast n (length cases) ∷ last.stmts) (Some (case_expr (is_unit c) (case_path c) (exprs_of last.results))) (declare_then (stmt.AssertLast n (length cases)) last.stmts (assert_one n (length cases)) g))
+  -- arms by numbers, and another behind them
+  pub numbers_bare : (names : MatchNames) (e : Expr) (bodies : List Block) (p : ArmPattern) (last : Block) → list_all (is_block_without what) bodies ≡ true → is_block_without what last ≡ true → Declare [] (stmt.Match names e (number_arms 0 bodies (arm_of p last)) ∷ [])
+  numbers_bare names e bodies p last h g =
+      match_one names e (number_arms 0 bodies (arm_of p last))
+      (list_all-append (is_arm_without what) (numbered_arms 0 bodies) (arm_of p last ∷ []) ∙ ap₂ (λ x y. x && (y && true)) (numbers_without 0 bodies h) (arm_without p last g))
 
-pub frees_bare : (e : Expr) (first : List FinishedBlock) (last : FinishedBlock) → AreBare first → Declare [] last.stmts → Declare [] (stmt.Match names_of.Nothing e (number_arms 0 (map freed_body first) (arm_of arm.AnyOther (freed_body last))) ∷ [])
-frees_bare e first last h g = numbers_bare names_of.Nothing e (map freed_body first) arm.AnyOther (freed_body last) (freed_without first h) (code_without last.stmts None g)
+  pub lifts_bare : (v : Bytes) (e : Expr) (cases : _) (blocks : List FinishedBlock) → AreBare blocks → Declare [] (stmt.Match (names_of.One v) e (number_arms 0 (lifted_bodies cases blocks) (arm_of arm.AnyOther invalid_body)) ∷ [])
+  lifts_bare v e cases blocks h =
+      numbers_bare (names_of.One v) e (lifted_bodies cases blocks) arm.AnyOther invalid_body (bodies_without cases blocks h) (code_without [] (Some (expr.Call (runtime_path InvalidEnumDiscriminant) [])) no_stmts)
 
--- 3. What the table tells
+  pub last_bare : (n v : Bytes) (e : Expr) (cases : _) (c : _) (first : List FinishedBlock) (last : FinishedBlock) → AreBare first → Declare [] last.stmts
+      → Declare [] (stmt.Match (names_of.One v) e (number_arms 0 (lifted_bodies cases first) (arm_of (arm.Name n) (last_body n (length cases) c last))) ∷ [])
+  last_bare n v e cases c first last h g =
+      numbers_bare (names_of.One v) e (lifted_bodies cases first) (arm.Name n) (last_body n (length cases) c last) (bodies_without cases first h)
+      (code_without (stmt.AssertLast n (length cases) ∷ last.stmts) (Some (case_expr (is_unit c) (case_path c) (exprs_of last.results))) (declare_then (stmt.AssertLast n (length cases)) last.stmts (assert_one n (length cases)) g))
 
--- what is emitted declares none
-abbrev pub IsBare : Option (ℕ → Emission) → Type 0
-IsBare None = Unit {0}
-IsBare (Some code) = (t : ℕ) → Declare [] (code t).stmts
+  pub frees_bare : (e : Expr) (first : List FinishedBlock) (last : FinishedBlock) → AreBare first → Declare [] last.stmts → Declare [] (stmt.Match names_of.Nothing e (number_arms 0 (map freed_body first) (arm_of arm.AnyOther (freed_body last))) ∷ [])
+  frees_bare e first last h g = numbers_bare names_of.Nothing e (map freed_body first) arm.AnyOther (freed_body last) (freed_without first h) (code_without last.stmts None g)
 
-for_each : {A : Type 0} (o : Option A) (code : A → ℕ → Emission) → ((x : A) (t : ℕ) → Declare [] (code x t).stmts) → IsBare (option_map code o)
-for_each None code h = tt
-for_each (Some x) code h = h x
+  -- 3. What the table tells
 
-lets_bare : (names : List Bytes) (es : List Expr) → Declare [] (lets_of names es)
-lets_bare [] es = no_stmts
-lets_bare (n ∷ names) [] = no_stmts
-lets_bare (n ∷ names) (e ∷ es) = declare_then (stmt.Let n e) (lets_of names es) (let_one n e) (lets_bare names es)
+  -- what is emitted declares none
+  abbrev pub IsBare : Option (ℕ → Emission) → Type 0
+  IsBare None = Unit {0}
+  IsBare (Some code) = (t : ℕ) → Declare [] (code t).stmts
 
-cast_bare : (b : Bool) (slot : Bytes) (e : Expr) → Declare [] (cast_stmts b slot e)
-cast_bare true slot e = declare_then (stmt.LetSlot slot) (stmt.WriteSlot slot e ∷ []) (slot_one slot) (write_one slot e)
-cast_bare false slot e = no_stmts
+  for_each : {A : Type 0} (o : Option A) (code : A → ℕ → Emission) → ((x : A) (t : ℕ) → Declare [] (code x t).stmts) → IsBare (option_map code o)
+  for_each None code h = tt
+  for_each (Some x) code h = h x
 
-casts_bare : (at : ℕ) (cs : List Bitcast) (es : List Expr) (t : ℕ) → Declare [] (stmts_from at cs es t)
-casts_bare at [] es t = no_stmts
-casts_bare at (c ∷ cs) [] t = no_stmts
-casts_bare at (c ∷ cs) (e ∷ es) t =
-    declare_more [] (cast_stmts (needs_slot c) (part_name slot_prefix t at) (cast_expr c e)) (stmts_from (at + 1) cs es t) (cast_bare (needs_slot c) (part_name slot_prefix t at) (cast_expr c e)) (casts_bare (at + 1) cs es t)
+  lets_bare : (names : List Bytes) (es : List Expr) → Declare [] (lets_of names es)
+  lets_bare [] es = no_stmts
+  lets_bare (n ∷ names) [] = no_stmts
+  lets_bare (n ∷ names) (e ∷ es) = declare_then (stmt.Let n e) (lets_of names es) (let_one n e) (lets_bare names es)
 
-three_lets : (a b c : Bytes) (x y z : Expr) → Declare [] (stmt.Let a x ∷ stmt.Let b y ∷ stmt.Let c z ∷ [])
-three_lets a b c x y z = declare_then (stmt.Let a x) (stmt.Let b y ∷ stmt.Let c z ∷ []) (let_one a x) (declare_then (stmt.Let b y) (stmt.Let c z ∷ []) (let_one b y) (let_one c z))
+  cast_bare : (b : Bool) (slot : Bytes) (e : Expr) → Declare [] (cast_stmts b slot e)
+  cast_bare true slot e = declare_then (stmt.LetSlot slot) (stmt.WriteSlot slot e ∷ []) (slot_one slot) (write_one slot e)
+  cast_bare false slot e = no_stmts
 
-enum_bare : (e : Expr) (s : EnumSite) → IsBare (lifts_enum e s)
-enum_bare e s = go (root_name s.path)
-  where
-    go : (o : Option Bytes) → IsBare (option_and_then (λ name. option_map (case_let name e) (case_cast s.repr)) o)
-    go None = tt
-    go (Some name) = for_each (case_cast s.repr) (case_let name e) (λ to t. let_one _ _)
+  casts_bare : (at : ℕ) (cs : List Bitcast) (es : List Expr) (t : ℕ) → Declare [] (stmts_from at cs es t)
+  casts_bare at [] es t = no_stmts
+  casts_bare at (c ∷ cs) [] t = no_stmts
+  casts_bare at (c ∷ cs) (e ∷ es) t =
+      declare_more [] (cast_stmts (needs_slot c) (part_name slot_prefix t at) (cast_expr c e)) (stmts_from (at + 1) cs es t) (cast_bare (needs_slot c) (part_name slot_prefix t at) (cast_expr c e)) (casts_bare (at + 1) cs es t)
 
-enums_bare : (e : Expr) (o : Option EnumSite) → IsBare (option_and_then (lifts_enum e) o)
-enums_bare e None = tt
-enums_bare e (Some s) = enum_bare e s
+  three_lets : (a b c : Bytes) (x y z : Expr) → Declare [] (stmt.Let a x ∷ stmt.Let b y ∷ stmt.Let c z ∷ [])
+  three_lets a b c x y z = declare_then (stmt.Let a x) (stmt.Let b y ∷ stmt.Let c z ∷ []) (let_one a x) (declare_then (stmt.Let b y) (stmt.Let c z ∷ []) (let_one b y) (let_one c z))
 
-pub told_bare : (b : FunctionBindgen) (step : Sent) (es : List Expr) → IsBare (emitted b step es)
-told_bare b (asks room) [] = λ t. let_one _ _
-told_bare b (sends (GetArg n)) [] = for_each (slice_get b.params n) (λ (p : ParamSite). λ t. alone p.operand.expr) (λ p t. no_stmts)
-told_bare b (sends (I32Const n)) [] = λ t. no_stmts
-told_bare b (sends (ConstZero types)) [] = λ t. no_stmts
-told_bare b (sends (Bitcasts cs)) es = λ t. casts_bare 0 cs.now es t
-told_bare b (sends I32FromU8) (a ∷ []) = λ t. no_stmts
-told_bare b (sends I32FromS8) (a ∷ []) = λ t. no_stmts
-told_bare b (sends I32FromU16) (a ∷ []) = λ t. no_stmts
-told_bare b (sends I32FromS16) (a ∷ []) = λ t. no_stmts
-told_bare b (sends I32FromU32) (a ∷ []) = λ t. no_stmts
-told_bare b (sends I32FromS32) (a ∷ []) = λ t. no_stmts
-told_bare b (sends I32FromChar) (a ∷ []) = λ t. no_stmts
-told_bare b (sends I64FromU64) (a ∷ []) = λ t. no_stmts
-told_bare b (sends I64FromS64) (a ∷ []) = λ t. no_stmts
-told_bare b (sends CoreF32FromF32) (a ∷ []) = λ t. no_stmts
-told_bare b (sends CoreF64FromF64) (a ∷ []) = λ t. no_stmts
-told_bare b (sends S32FromI32) (a ∷ []) = λ t. no_stmts
-told_bare b (sends S64FromI64) (a ∷ []) = λ t. no_stmts
-told_bare b (sends F32FromCoreF32) (a ∷ []) = λ t. no_stmts
-told_bare b (sends F64FromCoreF64) (a ∷ []) = λ t. no_stmts
-told_bare b (sends S8FromI32) (a ∷ []) = λ t. no_stmts
-told_bare b (sends U8FromI32) (a ∷ []) = λ t. no_stmts
-told_bare b (sends S16FromI32) (a ∷ []) = λ t. no_stmts
-told_bare b (sends U16FromI32) (a ∷ []) = λ t. no_stmts
-told_bare b (sends U32FromI32) (a ∷ []) = λ t. no_stmts
-told_bare b (sends U64FromI64) (a ∷ []) = λ t. no_stmts
-told_bare b (sends CharFromI32) (a ∷ []) = λ t. let_one _ _
-told_bare b (sends I32FromBool) (a ∷ []) = λ t. let_one _ _
-told_bare b (sends BoolFromI32) (a ∷ []) = λ t. let_one _ _
-told_bare b (sends (RecordLower id)) (a ∷ []) = for_each (record_at b.sites id.0) (splits_record a) (λ s t. parts_one _ _)
-told_bare b (sends (RecordLift id)) es = for_each (record_at b.sites id.0) (makes_record es) (λ s t. let_one _ _)
-told_bare b (sends (EnumLower id)) (a ∷ []) = λ t. no_stmts
-told_bare b (sends (EnumLift id)) (a ∷ []) = enums_bare a (enum_at b.sites id.0)
-told_bare b (sends (FlagsLower id)) (a ∷ []) = for_each (flags_at b.sites id.0) (lowers_flags a) (λ s t. let_one _ _)
-told_bare b (sends (FlagsLift id)) es = for_each (flags_at b.sites id.0) (lifts_flags es) (λ s t. let_one _ _)
-told_bare b (sends (TupleLower n)) (a ∷ []) = λ t. parts_one _ _
-told_bare b (sends (TupleLift n)) es = λ t. let_one _ _
-told_bare b (sends (StringLower false)) (a ∷ []) = λ t. three_lets _ _ _ _ _ _
-told_bare b (sends (StringLower true)) (a ∷ []) = for_each (local_of a) hands_text (λ name t. declare_more [] _ _ (three_lets _ _ _ _ _ _) (expr_one _))
-told_bare b (sends StringLift) (a ∷ n ∷ []) = λ t. three_lets _ _ _ _ _ _
-told_bare b (sends (Flush n)) es = λ t. lets_bare (names_from flush_prefix t 0 n) es
-told_bare b (sends (Return n)) es = λ t. no_stmts
-told_bare b (sends (I32Load8U o)) (a ∷ []) = λ t. let_one _ _
-told_bare b (sends (I32Load8S o)) (a ∷ []) = λ t. let_one _ _
-told_bare b (sends (I32Load16U o)) (a ∷ []) = λ t. let_one _ _
-told_bare b (sends (I32Load16S o)) (a ∷ []) = λ t. let_one _ _
-told_bare b (sends (I32Load o)) (a ∷ []) = λ t. let_one _ _
-told_bare b (sends (I64Load o)) (a ∷ []) = λ t. let_one _ _
-told_bare b (sends (F32Load o)) (a ∷ []) = λ t. let_one _ _
-told_bare b (sends (F64Load o)) (a ∷ []) = λ t. let_one _ _
-told_bare b (sends (PointerLoad o)) (a ∷ []) = λ t. let_one _ _
-told_bare b (sends (LengthLoad o)) (a ∷ []) = λ t. let_one _ _
-told_bare b (sends (I32Store8 o)) (a ∷ at ∷ []) = λ t. small_one _ _ _ _
-told_bare b (sends (I32Store16 o)) (a ∷ at ∷ []) = λ t. small_one _ _ _ _
-told_bare b (sends (I32Store o)) (a ∷ at ∷ []) = λ t. store_one _ _ _ _
-told_bare b (sends (I64Store o)) (a ∷ at ∷ []) = λ t. store_one _ _ _ _
-told_bare b (sends (F32Store o)) (a ∷ at ∷ []) = λ t. store_one _ _ _ _
-told_bare b (sends (F64Store o)) (a ∷ at ∷ []) = λ t. store_one _ _ _ _
-told_bare b (sends (PointerStore o)) (a ∷ at ∷ []) = λ t. store_one _ _ _ _
-told_bare b (sends (LengthStore o)) (a ∷ at ∷ []) = λ t. store_one _ _ _ _
-told_bare b (sends (GuestDeallocate size align)) (a ∷ []) = λ t. expr_one _
-told_bare b (sends GuestDeallocateString) (a ∷ n ∷ []) = λ t. expr_one _
-told_bare b (sends VariantPayloadName) [] = for_each (innermost b.opened) (λ (k : ℕ). λ t. alone (expr.Local (slot_name the_payload k))) (λ k t. no_stmts)
-told_bare b (sends IterElem) [] = for_each (innermost b.opened) (λ (k : ℕ). λ t. alone (expr.Local (slot_name the_element k))) (λ k t. no_stmts)
-told_bare b (sends IterMapKey) [] = for_each (innermost b.opened) (λ (k : ℕ). λ t. alone (expr.Local (slot_name the_key k))) (λ k t. no_stmts)
-told_bare b (sends IterMapValue) [] = for_each (innermost b.opened) (λ (k : ℕ). λ t. alone (expr.Local (slot_name the_value k))) (λ k t. no_stmts)
-told_bare b (sends IterBasePointer) [] = for_each (innermost b.opened) (λ (k : ℕ). λ t. alone (expr.Local (slot_name the_base k))) (λ k t. no_stmts)
-told_bare b _ es = tt
+  enum_bare : (e : Expr) (s : EnumSite) → IsBare (lifts_enum e s)
+  enum_bare e s = go (root_name s.path)
+    where
+      go : (o : Option Bytes) → IsBare (option_and_then (λ name. option_map (case_let name e) (case_cast s.repr)) o)
+      go None = tt
+      go (Some name) = for_each (case_cast s.repr) (case_let name e) (λ to t. let_one _ _)
+
+  enums_bare : (e : Expr) (o : Option EnumSite) → IsBare (option_and_then (lifts_enum e) o)
+  enums_bare e None = tt
+  enums_bare e (Some s) = enum_bare e s
+
+  pub told_bare : (b : FunctionBindgen) (step : Sent) (es : List Expr) → IsBare (emitted b step es)
+  told_bare b (asks room) [] = λ t. let_one _ _
+  told_bare b (sends (GetArg n)) [] = for_each (slice_get b.params n) (λ (p : ParamSite). λ t. alone p.operand.expr) (λ p t. no_stmts)
+  told_bare b (sends (I32Const n)) [] = λ t. no_stmts
+  told_bare b (sends (ConstZero types)) [] = λ t. no_stmts
+  told_bare b (sends (Bitcasts cs)) es = λ t. casts_bare 0 cs.now es t
+  told_bare b (sends I32FromU8) (a ∷ []) = λ t. no_stmts
+  told_bare b (sends I32FromS8) (a ∷ []) = λ t. no_stmts
+  told_bare b (sends I32FromU16) (a ∷ []) = λ t. no_stmts
+  told_bare b (sends I32FromS16) (a ∷ []) = λ t. no_stmts
+  told_bare b (sends I32FromU32) (a ∷ []) = λ t. no_stmts
+  told_bare b (sends I32FromS32) (a ∷ []) = λ t. no_stmts
+  told_bare b (sends I32FromChar) (a ∷ []) = λ t. no_stmts
+  told_bare b (sends I64FromU64) (a ∷ []) = λ t. no_stmts
+  told_bare b (sends I64FromS64) (a ∷ []) = λ t. no_stmts
+  told_bare b (sends CoreF32FromF32) (a ∷ []) = λ t. no_stmts
+  told_bare b (sends CoreF64FromF64) (a ∷ []) = λ t. no_stmts
+  told_bare b (sends S32FromI32) (a ∷ []) = λ t. no_stmts
+  told_bare b (sends S64FromI64) (a ∷ []) = λ t. no_stmts
+  told_bare b (sends F32FromCoreF32) (a ∷ []) = λ t. no_stmts
+  told_bare b (sends F64FromCoreF64) (a ∷ []) = λ t. no_stmts
+  told_bare b (sends S8FromI32) (a ∷ []) = λ t. no_stmts
+  told_bare b (sends U8FromI32) (a ∷ []) = λ t. no_stmts
+  told_bare b (sends S16FromI32) (a ∷ []) = λ t. no_stmts
+  told_bare b (sends U16FromI32) (a ∷ []) = λ t. no_stmts
+  told_bare b (sends U32FromI32) (a ∷ []) = λ t. no_stmts
+  told_bare b (sends U64FromI64) (a ∷ []) = λ t. no_stmts
+  told_bare b (sends CharFromI32) (a ∷ []) = λ t. let_one _ _
+  told_bare b (sends I32FromBool) (a ∷ []) = λ t. let_one _ _
+  told_bare b (sends BoolFromI32) (a ∷ []) = λ t. let_one _ _
+  told_bare b (sends (RecordLower id)) (a ∷ []) = for_each (record_at b.sites id.0) (splits_record a) (λ s t. parts_one _ _)
+  told_bare b (sends (RecordLift id)) es = for_each (record_at b.sites id.0) (makes_record es) (λ s t. let_one _ _)
+  told_bare b (sends (EnumLower id)) (a ∷ []) = λ t. no_stmts
+  told_bare b (sends (EnumLift id)) (a ∷ []) = enums_bare a (enum_at b.sites id.0)
+  told_bare b (sends (FlagsLower id)) (a ∷ []) = for_each (flags_at b.sites id.0) (lowers_flags a) (λ s t. let_one _ _)
+  told_bare b (sends (FlagsLift id)) es = for_each (flags_at b.sites id.0) (lifts_flags es) (λ s t. let_one _ _)
+  told_bare b (sends (TupleLower n)) (a ∷ []) = λ t. parts_one _ _
+  told_bare b (sends (TupleLift n)) es = λ t. let_one _ _
+  told_bare b (sends (StringLower false)) (a ∷ []) = λ t. three_lets _ _ _ _ _ _
+  told_bare b (sends (StringLower true)) (a ∷ []) = for_each (local_of a) hands_text (λ name t. declare_more [] _ _ (three_lets _ _ _ _ _ _) (expr_one _))
+  told_bare b (sends StringLift) (a ∷ n ∷ []) = λ t. three_lets _ _ _ _ _ _
+  told_bare b (sends (Flush n)) es = λ t. lets_bare (names_from flush_prefix t 0 n) es
+  told_bare b (sends (Return n)) es = λ t. no_stmts
+  told_bare b (sends (I32Load8U o)) (a ∷ []) = λ t. let_one _ _
+  told_bare b (sends (I32Load8S o)) (a ∷ []) = λ t. let_one _ _
+  told_bare b (sends (I32Load16U o)) (a ∷ []) = λ t. let_one _ _
+  told_bare b (sends (I32Load16S o)) (a ∷ []) = λ t. let_one _ _
+  told_bare b (sends (I32Load o)) (a ∷ []) = λ t. let_one _ _
+  told_bare b (sends (I64Load o)) (a ∷ []) = λ t. let_one _ _
+  told_bare b (sends (F32Load o)) (a ∷ []) = λ t. let_one _ _
+  told_bare b (sends (F64Load o)) (a ∷ []) = λ t. let_one _ _
+  told_bare b (sends (PointerLoad o)) (a ∷ []) = λ t. let_one _ _
+  told_bare b (sends (LengthLoad o)) (a ∷ []) = λ t. let_one _ _
+  told_bare b (sends (I32Store8 o)) (a ∷ at ∷ []) = λ t. small_one _ _ _ _
+  told_bare b (sends (I32Store16 o)) (a ∷ at ∷ []) = λ t. small_one _ _ _ _
+  told_bare b (sends (I32Store o)) (a ∷ at ∷ []) = λ t. store_one _ _ _ _
+  told_bare b (sends (I64Store o)) (a ∷ at ∷ []) = λ t. store_one _ _ _ _
+  told_bare b (sends (F32Store o)) (a ∷ at ∷ []) = λ t. store_one _ _ _ _
+  told_bare b (sends (F64Store o)) (a ∷ at ∷ []) = λ t. store_one _ _ _ _
+  told_bare b (sends (PointerStore o)) (a ∷ at ∷ []) = λ t. store_one _ _ _ _
+  told_bare b (sends (LengthStore o)) (a ∷ at ∷ []) = λ t. store_one _ _ _ _
+  told_bare b (sends (GuestDeallocate size align)) (a ∷ []) = λ t. expr_one _
+  told_bare b (sends GuestDeallocateString) (a ∷ n ∷ []) = λ t. expr_one _
+  told_bare b (sends VariantPayloadName) [] = for_each (innermost b.opened) (λ (k : ℕ). λ t. alone (expr.Local (slot_name the_payload k))) (λ k t. no_stmts)
+  told_bare b (sends IterElem) [] = for_each (innermost b.opened) (λ (k : ℕ). λ t. alone (expr.Local (slot_name the_element k))) (λ k t. no_stmts)
+  told_bare b (sends IterMapKey) [] = for_each (innermost b.opened) (λ (k : ℕ). λ t. alone (expr.Local (slot_name the_key k))) (λ k t. no_stmts)
+  told_bare b (sends IterMapValue) [] = for_each (innermost b.opened) (λ (k : ℕ). λ t. alone (expr.Local (slot_name the_value k))) (λ k t. no_stmts)
+  told_bare b (sends IterBasePointer) [] = for_each (innermost b.opened) (λ (k : ℕ). λ t. alone (expr.Local (slot_name the_base k))) (λ k t. no_stmts)
+  told_bare b _ es = tt
+
+-- 4. The area itself
+
+pub area_one : (a : ReturnArea) → Declare Import [] (stmt.Area a ∷ [])
+area_one a = plain_one Import (Stmt-F.Area a) (stmt.Area a) (rolls-Area a) refl refl (fold-roll-Stmt Bool Bool Bool (without_step Import) arm_without_step block_without_step (Stmt-F.Area a))

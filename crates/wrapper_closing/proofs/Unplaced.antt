@@ -50,8 +50,7 @@ use Rattle.wrapper_run.specs.Blocks.{boxed, dealloc, dealloc_words, drop_value, 
 use Rattle.wrapper_run.specs.ExportRun.{call_inside, call_method, call_with, keep_result, run_call}
 use Rattle.wrapper_run.specs.LastParts.{results}
 use Rattle.wrapper_run.specs.Run.{alone, apply, apply_item, apply_one, arm_act, arm_step, block_act, block_step, call_callee, call_core, call_member, call_runtime, Callee, callee, converted_or_lifted, core_case, core_forget, core_function, each, eval, eval_step, forget_one, lift_act, lift_case, lift_name, load_small, load_word, make_case, member_of, no_case, of_runtime, run_stmt, run_stmts, runtime_item_named, size_word, stmt_step, take_bytes, unknown}
-use Rattle.wrapper_closing.specs.declared.declares.Declaration.TheVariants.{Area}
-use Rattle.wrapper_closing.specs.Declares.{arm_without_step, block_without_step, declare_none, is_arm_without, is_block_without, is_without, without_step}
+use Rattle.wrapper_closing.specs.Declares.{Area, arm_without_step, block_without_step, declare_none, is_arm_without, is_block_without, is_without, without_step}
 use Rattle.wrapper_closing.proofs.Unasking.{Unasking, unasking_ask, unasking_bind, unasking_box, unasking_dealloc, unasking_declare, unasking_drop, unasking_import, unasking_leave, unasking_lend, unasking_lift, unasking_load, unasking_load_small, unasking_method, unasking_or_stop, unasking_pure, unasking_releases, unasking_static, unasking_stop, unasking_store, unasking_store_small, unasking_take, unasking_then, unasking_use, unasking_write}
 
 module _ (w : Setting) where

@@ -15,8 +15,7 @@ use Rattle.func_gen.specs.Body.{IsBodyOf}
 use Rattle.func_gen.specs.Meaning.{func_meaning}
 use Rattle.func_gen.specs.declared.body.Body.{Body}
 use Rattle.func_gen.specs.declared.function_bindgen.FunctionBindgen.{FunctionBindgen}
-use Rattle.wrapper_closing.specs.declared.declares.Declaration.TheVariants.{Area}
-use Rattle.wrapper_closing.specs.Declares.{declare_none}
+use Rattle.wrapper_closing.specs.Declares.{Area, declare_none}
 use Rattle.wrapper_closing.specs.Parts.{IsMadeFrom}
 use Rattle.wrapper_closing.specs.declared.parts.BodyParts.{BodyParts}
 

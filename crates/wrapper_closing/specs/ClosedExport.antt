@@ -43,8 +43,7 @@ use Rattle.func_gen.specs.Still.{StillOf}
 use Rattle.wrapper_closing.specs.Begun.{IsBegun}
 use Rattle.wrapper_closing.specs.Direct.{are_direct, is_direct_result}
 use Rattle.wrapper_closing.specs.ImportBlock.{tail_of, wanted}
-use Rattle.wrapper_closing.specs.declared.declares.Declaration.TheVariants.{Area}
-use Rattle.wrapper_closing.specs.Declares.{declare_none}
+use Rattle.wrapper_closing.specs.Declares.{Area, declare_none}
 
 -- the file, with its static area, and the trait of the methods
 abbrev pub export_file : Tree → ℕ → Bytes → File

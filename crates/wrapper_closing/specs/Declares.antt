@@ -10,10 +10,12 @@ use Rattle.rust_tree.specs.declared.stmt.ImportDecl.{ImportDecl}
 use Rattle.rust_tree.specs.declared.stmt.Stmt.{Stmt, Stmt-F, fold-Stmt, out-Stmt}
 use Rattle.rust_tree.specs.declared.stmt.Stmt.TheVariants as stmt
 use Rattle.abi_bindgen.specs.Calls.{import_params, import_results}
-use Rattle.wrapper_closing.specs.declared.declares.Declaration.{Declaration}
-use Rattle.wrapper_closing.specs.declared.declares.Declaration.TheVariants.{Area, Import}
 
--- it is an area, or else a core import
+-- what a statement may declare: a return area, or a core import
+pub data Declaration : Type 0 where
+  Area : Declaration
+  Import : Declaration
+
 abbrev pub is_area : Declaration → Bool
 is_area Area = true
 is_area Import = false

@@ -6,10 +6,9 @@ ghost use Rattle.abi_bindgen.specs.Served.{ServesFunction};
 ghost use Rattle.abi_driver.specs.Low.{IsSmallRecord};
 ghost use Rattle.wit_model.specs.IndexRange.{function_in_range};
 ghost use Rattle.wit_model.specs.WellFormed.{IsWellFormed};
-ghost use Rattle.wrapper_closing.specs.Bodies.{MakesExport, calls_method};
+ghost use Rattle.wrapper_closing.specs.Bodies.{MakesExport};
 ghost use Rattle.wrapper_closing.specs.Parts.{AreParts, tables_of};
 
-use crate::declares::{Declaration, declare_none};
 use crate::parts::{BodyParts, begin};
 use abi_driver::{LiftLower, call};
 use func_gen::{Body, TypeTables};
@@ -43,19 +42,6 @@ pub fn export_body(
         func,
         &mut bindgen,
     )?;
-    let (body, tables) = bindgen.finish()?;
-    if !calls_method(&body) || !declare_none(Declaration::Area, body.stmts.as_slice()) {
-        return Err(OutOfMemory);
-    }
+    let (body, tables) = bindgen.finish();
     Ok((body, tables))
-}
-
-/// Whether a body has a block that calls a method, and that declares no area.
-fn calls_method(body: &Body) -> bool
-    ensures { result ≡ calls_method body.now }
-{
-    match &body.call {
-        Some(block) => declare_none(Declaration::Area, block.stmts.as_slice()),
-        None => false,
-    }
 }

@@ -41,9 +41,6 @@ pub fn import_body(
         func,
         &mut bindgen,
     )?;
-    let (body, tables) = bindgen.finish()?;
-    if body.call.is_some() {
-        return Err(OutOfMemory);
-    }
+    let (body, tables) = bindgen.finish();
     Ok((body, tables))
 }

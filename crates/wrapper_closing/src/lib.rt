@@ -3,7 +3,6 @@
 #![tactic(auto)]
 
 mod block;
-mod declares;
 mod exports;
 mod imports;
 mod laws;
@@ -15,7 +14,6 @@ mod printed_law;
 mod sites;
 
 pub use block::import_block;
-pub use declares::{Declaration, declare_none};
 pub use exports::export_body;
 pub use imports::import_body;
 pub use laws::{

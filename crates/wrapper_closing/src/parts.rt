@@ -3,6 +3,8 @@
 ghost use Rattle.std.specs.Prelude.{◌≡◌, ◌∷◌, true, IfOk};
 ghost use Rattle.std.specs.List.{AllByRecursion};
 ghost use Rattle.wit_model.specs.Distinct.{is_distinct};
+ghost use Rattle.abi_bindgen.specs.Laws.{IsNew};
+ghost use Rattle.func_gen.specs.Meaning.{func_meaning};
 ghost use Rattle.func_gen.specs.TypeSites.{CanBeDefined};
 ghost use Rattle.func_gen.specs.Sites.{IsSite, site_names};
 ghost use Rattle.wrapper_closing.specs.Parts.{IsMadeFrom};
@@ -38,7 +40,8 @@ pub(crate) fn begin(
     requires sites { AllByRecursion IsSite parts.params }
     requires defined { CanBeDefined parts.sites }
     requires distinct { is_distinct (parts.area ∷ site_names parts.params) ≡ true }
-    ensures { IfOk result (IsMadeFrom import parts) }
+    ensures made { IfOk result (IsMadeFrom import parts) }
+    ensures begins { IfOk result (λ b. IsNew func_meaning b) }
 {
     let BodyParts {
         sizes,

@@ -32,9 +32,6 @@ pub fn post_return_body(
 {
     let mut bindgen = begin(alloc, false, parts)?;
     post_return(alloc, resolve, func, &mut bindgen)?;
-    let (body, tables) = bindgen.finish()?;
-    if body.call.is_some() {
-        return Err(OutOfMemory);
-    }
+    let (body, tables) = bindgen.finish();
     Ok((body, tables))
 }

@@ -1,6 +1,6 @@
 //! Records that pass by the return area.
 
-ghost use Rattle.std.specs.Prelude.{◌≡◌, ◌<◌, ◌^◌, ◌++◌, IsTrue, true, length, IfOk, OnOk};
+ghost use Rattle.std.specs.Prelude.{◌≡◌, ◌<◌, ◌^◌, ◌++◌, [], IsTrue, true, length, IfOk, OnOk};
 ghost use Rattle.std.specs.List.{list_all};
 ghost use Rattle.wit_model.specs.WellFormed.{IsWellFormed};
 ghost use Rattle.wit_model.specs.TypeOrder.{GoesDown, type_below};
@@ -22,7 +22,7 @@ use abi_bindgen::{Bindgen, argument};
 use std::alloc::Global;
 use wit_model::{List, OutOfMemory, Resolve, WitType};
 
-/// What denotes the address of the area, which is asked for a value of this type.
+/// What denotes the address of the area, which is asked for a value of this type, outside of all blocks.
 pub(super) fn point_at<B: Bindgen>(
     resolve: &Resolve,
     bindgen: &mut B,
@@ -30,6 +30,7 @@ pub(super) fn point_at<B: Bindgen>(
 ) -> Result<B::Operand, OutOfMemory>
     requires below { IsTrue (type_below (length resolve.now.types) ty) }
     requires knows { B.meaning.knows bindgen.old resolve.now.types }
+    requires closed { B.meaning.opened bindgen.old ≡ [] }
     ensures points { IfOk result (λ o. Points B.meaning (shape_of resolve.now.types ty) o bindgen.old bindgen.new) }
     ensures sends { OnOk result (Sends B.meaning resolve.now.types (ask_for (shape_of resolve.now.types ty)) bindgen.old bindgen.new) }
 {
@@ -49,6 +50,7 @@ fn point_at_record<B: Bindgen>(
     requires below { list_all (λ ty. type_below (length resolve.now.types) ty) tys.now ≡ true }
     requires knows { B.meaning.knows bindgen.old resolve.now.types }
     requires small { IsSmallRecord resolve.now.types tys.now }
+    requires closed { B.meaning.opened bindgen.old ≡ [] }
     ensures points { IfOk result (λ o. Points B.meaning (fields (shapes_of resolve.now.types tys.now)) o bindgen.old bindgen.new) }
     ensures sends { OnOk result (Sends B.meaning resolve.now.types (ask_for (fields (shapes_of resolve.now.types tys.now))) bindgen.old bindgen.new) }
 {
@@ -74,6 +76,7 @@ pub(super) fn store_arguments<B: Bindgen>(
     requires serves { ServesAll (shapes_of resolve.now.types tys.now) }
     requires small { IsSmallRecord resolve.now.types tys.now }
     requires few { length tys.now < 2 ^ 32 }
+    requires closed { B.meaning.opened bindgen.old ≡ [] }
     ensures passes { IfOk result (λ o. PassesRecord B.meaning (shapes_of resolve.now.types tys.now) o bindgen.old bindgen.new) }
     ensures sends { OnOk result (Sends B.meaning resolve.now.types (ask_for (fields (shapes_of resolve.now.types tys.now)) ++ code.store_arguments resolve.now.types tys.now) bindgen.old bindgen.new) }
 {

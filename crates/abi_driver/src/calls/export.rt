@@ -1,6 +1,6 @@
 //! The whole code of an export.
 
-ghost use Rattle.std.specs.Prelude.{◌≡◌, ◌<◌, ◌≤◌, ◌+◌, ◌^◌, ◌++◌, IsTrue, Some, true, false, length, map, option_to_list, IfOk, IfSome, OnOk};
+ghost use Rattle.std.specs.Prelude.{◌≡◌, ◌<◌, ◌≤◌, ◌+◌, ◌^◌, ◌++◌, [], IsTrue, Some, true, false, length, map, option_to_list, IfOk, IfSome, OnOk};
 ghost use Rattle.std.specs.List.{list_all};
 ghost use Rattle.std.specs.Option.{option_map};
 ghost use Rattle.wit_model.specs.IndexRange.{function_in_range};
@@ -29,7 +29,7 @@ ghost use Rattle.abi_driver.specs.Exports.{
 };
 ghost use Rattle.abi_bindgen.specs.Frees.{nowhere};
 ghost use Rattle.abi_bindgen.specs.Instructions.{shapes_of};
-ghost use Rattle.abi_bindgen.specs.Laws.{IsCount};
+ghost use Rattle.abi_bindgen.specs.Laws.{IsCount, IsFresh};
 ghost use Rattle.abi_bindgen.specs.Lifts.{LiftsArguments};
 ghost use Rattle.abi_bindgen.specs.Lowers.{LowersAnswer};
 ghost use Rattle.abi_bindgen.specs.Sends.{Sends};
@@ -61,6 +61,7 @@ pub(super) fn call_export<B: Bindgen>(
     requires arguments { IsCount B.meaning (B.meaning.arguments bindgen.old) (length (export_params resolve.now.types func.now)) }
     requires serves { ServesFunction resolve.now.types func.now }
     requires small { IsSmallRecord resolve.now.types (map (λ p. p.ty) func.now.params) }
+    requires fresh { IsFresh B.meaning bindgen.old }
     ensures calls { OnOk result (CallsExport B.meaning func.now (param_shapes resolve.now.types func.now) (result_shape resolve.now.types func.now) bindgen.old bindgen.new) }
     ensures sends { OnOk result (Sends B.meaning resolve.now.types (export_code resolve.now.types func.entry) bindgen.old bindgen.new) }
 {
@@ -189,6 +190,7 @@ fn give_answer<B: Bindgen>(
     requires due { length answer.now ≡ length (option_to_list ty) }
     requires retptr { retptr ≡ is_indirect (option_map (shape_of resolve.now.types) ty) }
     requires serves { ServesResult (option_map (shape_of resolve.now.types) ty) }
+    requires closed { B.meaning.opened bindgen.old ≡ [] }
     ensures gives { IfOk result (λ given. GivesAnswer B.meaning (option_map (shape_of resolve.now.types) ty) answer.now given bindgen.old bindgen.new) }
     ensures sends { OnOk result (Sends B.meaning resolve.now.types (give_code resolve.now.types ty) bindgen.old bindgen.new) }
 {
@@ -237,6 +239,7 @@ fn store_answer<B: Bindgen>(
     requires knows { B.meaning.knows bindgen.old resolve.now.types }
     requires due { length answer.now ≡ 1 }
     requires serves { Serves (shape_of resolve.now.types ty) }
+    requires closed { B.meaning.opened bindgen.old ≡ [] }
     ensures stores { IfOk result (λ given. StoresAnswer B.meaning (shape_of resolve.now.types ty) answer.now given bindgen.old bindgen.new) }
     ensures sends { OnOk result (Sends B.meaning resolve.now.types (ask_for (shape_of resolve.now.types ty) ++ store_code resolve.now.types true ty nowhere) bindgen.old bindgen.new) }
 {

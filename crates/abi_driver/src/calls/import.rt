@@ -1,6 +1,6 @@
 //! The whole code of an import.
 
-ghost use Rattle.std.specs.Prelude.{◌≡◌, ◌<◌, ◌≤◌, ◌^◌, ◌++◌, IsTrue, Some, true, false, length, map, IfOk, OnOk};
+ghost use Rattle.std.specs.Prelude.{◌≡◌, ◌<◌, ◌≤◌, ◌^◌, ◌++◌, [], IsTrue, Some, true, false, length, map, IfOk, OnOk};
 ghost use Rattle.std.specs.List.{list_all};
 ghost use Rattle.std.specs.Option.{option_map};
 ghost use Rattle.wit_model.specs.IndexRange.{function_in_range};
@@ -51,6 +51,7 @@ pub(super) fn call_import<B: Bindgen>(
     requires arguments { IsCount B.meaning (B.meaning.arguments bindgen.old) (length func.now.params) }
     requires serves { ServesFunction resolve.now.types func.now }
     requires small { IsSmallRecord resolve.now.types (map (λ p. p.ty) func.now.params) }
+    requires closed { B.meaning.opened bindgen.old ≡ [] }
     ensures calls { OnOk result (CallsImport B.meaning func.now (param_shapes resolve.now.types func.now) (result_shape resolve.now.types func.now) bindgen.old bindgen.new) }
     ensures sends { OnOk result (Sends B.meaning resolve.now.types (import_code resolve.now.types func.entry) bindgen.old bindgen.new) }
 {
@@ -104,6 +105,7 @@ fn pass_arguments<B: Bindgen>(
     requires serves { ServesAll (shapes_of resolve.now.types tys.now) }
     requires small { IsSmallRecord resolve.now.types tys.now }
     requires few { length tys.now < 2 ^ 32 }
+    requires closed { B.meaning.opened bindgen.old ≡ [] }
     ensures passes { IfOk result (λ os. PassesArguments B.meaning (shapes_of resolve.now.types tys.now) os bindgen.old bindgen.new) }
     ensures sends { OnOk result (Sends B.meaning resolve.now.types (pass_code resolve.now.types tys.now) bindgen.old bindgen.new) }
 {
@@ -155,6 +157,7 @@ fn point_at_result<B: Bindgen>(
     requires below { IsTrue (payload_below (length resolve.now.types) ty) }
     requires knows { B.meaning.knows bindgen.old resolve.now.types }
     requires retptr { retptr ≡ is_indirect (option_map (shape_of resolve.now.types) ty) }
+    requires closed { B.meaning.opened bindgen.old ≡ [] }
     ensures points { IfOk result (λ pointer. PointsAtResult B.meaning (option_map (shape_of resolve.now.types) ty) pointer bindgen.old bindgen.new) }
     ensures sends { OnOk result (Sends B.meaning resolve.now.types (point_code resolve.now.types ty) bindgen.old bindgen.new) }
 {

@@ -1,6 +1,6 @@
 //! The instruction that frees by the block of a case is sent.
 
-ghost use Rattle.std.specs.Prelude.{◌≡◌, ◌∷◌, [], replicate, OnOk};
+ghost use Rattle.std.specs.Prelude.{◌≡◌, ◌<◌, ◌∷◌, [], replicate, OnOk};
 ghost use Rattle.abi_bindgen.specs.declared.instruction.Instruction.TheVariants as instruction;
 ghost use Rattle.abi_bindgen.specs.Instructions.{Emits, HasBlocks};
 
@@ -8,7 +8,7 @@ use abi_bindgen::{Bindgen, Instruction, only, send};
 use std::alloc::Global;
 use wit_model::{OutOfMemory, Resolve};
 
-/// Of so many finished blocks the one of the tag's case is run.
+/// Of so many finished blocks, at least one, the one of the tag's case is run.
 pub(super) fn run_case<B: Bindgen>(
     alloc: Global,
     resolve: &Resolve,
@@ -16,7 +16,8 @@ pub(super) fn run_case<B: Bindgen>(
     tag: B::Operand,
     cases: u32,
 ) -> Result<(), OutOfMemory>
-    requires { HasBlocks B.meaning (replicate cases 0) bindgen.old }
+    requires some { 0 < cases }
+    requires blocks { HasBlocks B.meaning (replicate cases 0) bindgen.old }
     ensures { OnOk result (Emits B.meaning resolve.now.types (instruction.GuestDeallocateVariant cases) (tag ∷ []) [] bindgen.old bindgen.new) }
 {
     let operands = only(alloc, tag)?;

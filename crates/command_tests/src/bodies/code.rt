@@ -1,15 +1,17 @@
 //! The driver's code for the functions of these worlds, made apart from their files.
 
-ghost use Rattle.std.specs.Prelude.{◌≡◌, ◌<◌, [], ◌∷◌, length, true, IfOk};
+ghost use Rattle.std.specs.Prelude.{◌≡◌, ◌<◌, [], ◌∷◌, length, map, true, IfOk};
 ghost use Rattle.std.specs.List.{AllByRecursion};
 ghost use Rattle.wit_model.specs.Distinct.{is_distinct};
 ghost use Rattle.wit_model.specs.IndexRange.{function_in_range};
 ghost use Rattle.wit_model.specs.WellFormed.{IsWellFormed};
 ghost use Rattle.wit_model.specs.declared.types.WitType.TheVariants.{Id};
 ghost use Rattle.wrapper_meaning.specs.Shape.{shape_at};
-ghost use Rattle.abi_bindgen.specs.Served.{Serves};
+ghost use Rattle.abi_bindgen.specs.Laws.{IsNew};
+ghost use Rattle.abi_bindgen.specs.Served.{Serves, ServesFunction};
 ghost use Rattle.abi_driver.specs.Low.{IsSmallRecord};
 ghost use Rattle.abi_driver.specs.Exports.{export_params};
+ghost use Rattle.func_gen.specs.Meaning.{func_meaning};
 ghost use Rattle.func_gen.specs.Sites.{IsSite, site_names};
 ghost use Rattle.func_gen.specs.TypeSites.{CanBeDefined};
 ghost use Rattle.wrapper_closing.specs.Parts.{AreParts, IsMadeFrom};
@@ -70,7 +72,8 @@ pub(crate) fn fresh(
     requires sites { AllByRecursion IsSite parts.params }
     requires defined { CanBeDefined parts.sites }
     requires distinct { is_distinct (parts.area ∷ site_names parts.params) ≡ true }
-    ensures { IfOk result (IsMadeFrom import parts) }
+    ensures made { IfOk result (IsMadeFrom import parts) }
+    ensures begins { IfOk result (λ b. IsNew func_meaning b) }
 {
     let BodyParts {
         sizes,
@@ -92,16 +95,34 @@ pub(crate) fn import_code(alloc: Global, resolve: &Resolve) -> Result<Body, Fail
 {
     let func = function(alloc)?;
     let parts = import_parts(alloc, resolve)?;
+    let body = called_import(alloc, resolve, &func, parts)?;
+    Ok(body)
+}
+
+/// The driver's code for an import, by a fresh bindgen.
+fn called_import(
+    alloc: Global,
+    resolve: &Resolve,
+    func: &Function,
+    parts: BodyParts,
+) -> Result<Body, OutOfMemory>
+    requires well { IsWellFormed resolve.now }
+    requires within { function_in_range resolve.now func.now ≡ true }
+    requires serves { ServesFunction resolve.now.types func.now }
+    requires small { IsSmallRecord resolve.now.types (map (λ p. p.ty) func.now.params) }
+    requires parts { AreParts resolve.now.types parts }
+    requires many { length parts.params ≡ length func.now.params }
+{
     let mut bindgen = fresh(alloc, true, parts)?;
     call(
         alloc,
         resolve,
         AbiVariant::GuestImport,
         LiftLower::LowerArgsLiftResults,
-        &func,
+        func,
         &mut bindgen,
     )?;
-    let (body, _) = bindgen.finish()?;
+    let (body, _) = bindgen.finish();
     Ok(body)
 }
 
@@ -138,15 +159,33 @@ pub(crate) fn export_code(alloc: Global, resolve: &Resolve) -> Result<Body, Fail
 {
     let func = function(alloc)?;
     let parts = export_parts(alloc, resolve, &func)?;
+    let body = called_export(alloc, resolve, &func, parts)?;
+    Ok(body)
+}
+
+/// The driver's code for an export, by a fresh bindgen.
+fn called_export(
+    alloc: Global,
+    resolve: &Resolve,
+    func: &Function,
+    parts: BodyParts,
+) -> Result<Body, OutOfMemory>
+    requires well { IsWellFormed resolve.now }
+    requires within { function_in_range resolve.now func.now ≡ true }
+    requires serves { ServesFunction resolve.now.types func.now }
+    requires small { IsSmallRecord resolve.now.types (map (λ p. p.ty) func.now.params) }
+    requires parts { AreParts resolve.now.types parts }
+    requires many { length parts.params ≡ length (export_params resolve.now.types func.now) }
+{
     let mut bindgen = fresh(alloc, false, parts)?;
     call(
         alloc,
         resolve,
         AbiVariant::GuestExport,
         LiftLower::LiftArgsLowerResults,
-        &func,
+        func,
         &mut bindgen,
     )?;
-    let (body, _) = bindgen.finish()?;
+    let (body, _) = bindgen.finish();
     Ok(body)
 }

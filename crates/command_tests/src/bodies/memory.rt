@@ -1,13 +1,15 @@
 //! Code that puts a value into memory and frees one, which `call` makes by inner functions.
 
-ghost use Rattle.std.specs.Prelude.{◌≡◌, length, IfOk};
+ghost use Rattle.std.specs.Prelude.{◌≡◌, [], length, Some, IfOk, OnOk};
 ghost use Rattle.wit_model.specs.WellFormed.{IsWellFormed};
+ghost use Rattle.func_gen.specs.Opened.{open_blocks};
 
 use crate::bodies::code::{fresh, import_parts};
 use crate::bodies::trees::{import_tree, prints};
 use crate::bodies::worlds::world_of_a_variant;
+use abi_bindgen::{Instruction, send};
 use abi_driver::{deallocate_lists_in_types, lower_to_memory};
-use func_gen::ExprOperand;
+use func_gen::{ExprOperand, FunctionBindgen};
 use rust_tree::{Bindings, Expr};
 use std::alloc::Global;
 use std::test::Fail;
@@ -32,6 +34,20 @@ fn words_of_a_text(alloc: Global) -> Result<List<ExprOperand>, OutOfMemory>
     Ok(words)
 }
 
+/// The code gives nothing.
+fn give_nothing(
+    alloc: Global,
+    resolve: &Resolve,
+    bindgen: &mut FunctionBindgen,
+) -> Result<(), OutOfMemory>
+    ensures closed { OnOk result (open_blocks bindgen.new.opened ≡ open_blocks bindgen.old.opened) }
+    ensures nothing { OnOk result (bindgen.new.returned ≡ Some []) }
+{
+    let none = List::new(alloc);
+    send(alloc, resolve, bindgen, Instruction::Return(0), none)?;
+    Ok(())
+}
+
 /// The tree of the code that stores a number.
 #[tactic(auto, unfolding(wit_model::specs::TypeOrder::type_below))]
 fn stored(alloc: Global, resolve: &Resolve) -> Result<Bindings, Fail>
@@ -43,7 +59,8 @@ fn stored(alloc: Global, resolve: &Resolve) -> Result<Bindings, Fail>
     let value = local(alloc, "x")?;
     let ty = WitType::U32;
     lower_to_memory(alloc, resolve, &mut bindgen, address, value, &ty, false)?;
-    let (body, _) = bindgen.finish()?;
+    give_nothing(alloc, resolve, &mut bindgen)?;
+    let (body, _) = bindgen.finish();
     import_tree(alloc, body)
 }
 
@@ -57,7 +74,8 @@ fn freed(alloc: Global, resolve: &Resolve) -> Result<Bindings, Fail>
     let words = words_of_a_text(alloc)?;
     let types = &[WitType::String];
     deallocate_lists_in_types(alloc, resolve, types, &words, false, &mut bindgen)?;
-    let (body, _) = bindgen.finish()?;
+    give_nothing(alloc, resolve, &mut bindgen)?;
+    let (body, _) = bindgen.finish();
     import_tree(alloc, body)
 }
 

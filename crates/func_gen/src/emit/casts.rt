@@ -1,16 +1,17 @@
 //! Core words become words of other core types.
 
-ghost use Rattle.std.specs.Prelude.{◌≡◌, ◌<◌, ◌^◌, ◌∷◌, ◌++◌, ℕ, [], false, length, map, IfOk, OnOk};
+ghost use Rattle.std.specs.Prelude.{◌≡◌, ◌∷◌, ◌++◌, ℕ, [], false, length, map, IfOk, OnOk, true};
+ghost use Rattle.std.specs.List.{All, list_all};
 ghost use Rattle.rust_tree.specs.declared.expr.Expr.TheVariants as expr;
 ghost use Rattle.rust_tree.specs.declared.stmt.Stmt.TheVariants as stmt;
-ghost use Rattle.wit_layout.specs.Cast.{cast};
-ghost use Rattle.abi_bindgen.specs.Instructions.{Emits};
+ghost use Rattle.abi_bindgen.specs.Instructions.{Emits, IsSendable};
 ghost use Rattle.abi_bindgen.specs.declared.instruction.Instruction.TheVariants as instruction;
-ghost use Rattle.func_gen.specs.CastForms.{cast_expr, cast_names, cast_result, cast_stmts, casts_from, core_call, core_path, needs_slot, slot_prefix, slots_from, step_expr, stmts_from};
+ghost use Rattle.func_gen.specs.CastForms.{HasSteps, cast_expr, cast_names, cast_result, cast_stmts, casts_from, core_call, core_path, needs_slot, slot_prefix, slots_from, step_expr, stmts_from};
 ghost use Rattle.func_gen.specs.Added.{Appends};
 ghost use Rattle.func_gen.specs.CallForms.{FreshAll};
 ghost use Rattle.func_gen.specs.Forms.{operand_of};
 ghost use Rattle.func_gen.specs.Meaning.{func_meaning};
+ghost use Rattle.func_gen.specs.Operand.{is_operand};
 ghost use Rattle.func_gen.specs.PartForms.{part_name};
 ghost use Rattle.func_gen.specs.Scope.{Takes, names_at};
 
@@ -21,8 +22,8 @@ use crate::operand::{ExprOperand, copy_expr};
 use crate::scope::{LocalName, numbered};
 use rust_tree::{CastType, Expr, Method, Path, Stmt};
 use std::alloc::Global;
-use wit_layout::{Bitcast, cast, join};
-use wit_model::{Boxed, List, OutOfMemory, Resolve, Text, WasmType};
+use wit_layout::{Bitcast, cast};
+use wit_model::{Boxed, List, OutOfMemory, Resolve, Text};
 use wrapper_values::CoreFn;
 
 /// A function of a number type.
@@ -136,27 +137,16 @@ fn step_expr(alloc: Global, step: Bitcast, e: Expr) -> Result<Expr, OutOfMemory>
     }
 }
 
-/// The cast between two types of which one is the join of both. Of any others there is no memory.
-fn cast_between(from: WasmType, to: WasmType) -> Result<Bitcast, OutOfMemory>
-    ensures { IfOk result (λ c. c ≡ cast from to) }
-{
-    let joined = join(from, to);
-    if joined == to || joined == from {
-        return Ok(cast(from, to));
-    }
-    Err(OutOfMemory)
-}
-
 /// A copy of an expression, behind a cast.
 fn cast_copy(alloc: Global, whole: Bitcast, e: &Expr) -> Result<Expr, OutOfMemory>
+    requires operand { is_operand e.now ≡ true }
+    requires steps { HasSteps whole }
     ensures { IfOk result (λ c. c ≡ cast_expr whole e.now) }
 {
     match whole {
         Bitcast::Sequence { from, through, to } => {
-            let first = cast_between(from, through)?;
-            let second = cast_between(through, to)?;
-            let between = step_expr(alloc, first, copy_expr(e, alloc)?)?;
-            step_expr(alloc, second, between)
+            let between = step_expr(alloc, cast(from, through), copy_expr(e, alloc)?)?;
+            step_expr(alloc, cast(through, to), between)
         }
         step => step_expr(alloc, step, copy_expr(e, alloc)?),
     }
@@ -174,7 +164,7 @@ fn needs_slot(cast: Bitcast) -> bool
 
 /// The name of the slot of the cast at a place.
 #[tactic(auto, unfolding(crate::specs::CastForms::slot_prefix))]
-fn slot_name(alloc: Global, at: u32, t: u32) -> Result<Text, OutOfMemory>
+fn slot_name(alloc: Global, at: usize, t: u32) -> Result<Text, OutOfMemory>
     ensures { IfOk result (λ name. name ≡ part_name slot_prefix t at) }
 {
     let part = Some(at);
@@ -189,7 +179,7 @@ fn slot_name(alloc: Global, at: u32, t: u32) -> Result<Text, OutOfMemory>
 fn push_slot_name<'a>(
     prefix: &'a str,
     cast: Bitcast,
-    at: u32,
+    at: usize,
     names: &mut List<LocalName<'a>>,
 ) -> Result<(), OutOfMemory>
     requires named { prefix.now ≡ slot_prefix }
@@ -209,18 +199,19 @@ fn slot_names<'a>(
     casts: &[Bitcast],
 ) -> Result<List<LocalName<'a>>, OutOfMemory>
     requires named { prefix.now ≡ slot_prefix }
-    requires few { length casts.now < 2 ^ 32 }
     ensures { IfOk result (λ names. (t : ℕ) → names_at names t ≡ slots_from 0 casts.now t) }
 {
     let mut names = List::new(alloc);
     for i in 0..casts.len() {
-        push_slot_name(prefix, casts[i], i as u32, &mut names)?;
+        push_slot_name(prefix, casts[i], i, &mut names)?;
     }
     Ok(names)
 }
 
 /// The statement that writes what a cast gives into a slot.
 fn write_slot(alloc: Global, slot: Text, cast: Bitcast, e: &Expr) -> Result<Stmt, OutOfMemory>
+    requires operand { is_operand e.now ≡ true }
+    requires steps { HasSteps cast }
     ensures { IfOk result (λ s. s ≡ stmt.WriteSlot slot (cast_expr cast e.now)) }
 {
     let e = cast_copy(alloc, cast, e)?;
@@ -231,11 +222,13 @@ fn write_slot(alloc: Global, slot: Text, cast: Bitcast, e: &Expr) -> Result<Stmt
 fn push_slot(
     alloc: Global,
     cast: Bitcast,
-    at: u32,
+    at: usize,
     t: u32,
     e: &Expr,
     stmts: &mut List<Stmt>,
 ) -> Result<(), OutOfMemory>
+    requires operand { is_operand e.now ≡ true }
+    requires steps { HasSteps cast }
     ensures { OnOk result (stmts.new ≡ stmts.old ++ cast_stmts (needs_slot cast) (part_name slot_prefix t at) (cast_expr cast e.now)) }
 {
     if needs_slot(cast) {
@@ -255,24 +248,35 @@ fn push_slots(
     es: &[Expr],
     stmts: &mut List<Stmt>,
 ) -> Result<(), OutOfMemory>
+    requires operands { list_all is_operand es.now ≡ true }
     requires many { length es.now ≡ length casts.now }
-    requires few { length casts.now < 2 ^ 32 }
+    requires steps { All HasSteps casts.now }
     ensures { OnOk result (stmts.new ≡ stmts.old ++ stmts_from 0 casts.now es.now t) }
 {
     for i in 0..casts.len() {
-        push_slot(alloc, casts[i], i as u32, t, &es[i], stmts)?;
+        push_slot(alloc, casts[i], i, t, &es[i], stmts)?;
     }
     Ok(())
 }
 
 /// What a cast gives: its slot, or the expression behind it.
-fn cast_result(alloc: Global, cast: Bitcast, at: u32, t: u32, e: &Expr) -> Result<Expr, OutOfMemory>
-    ensures { IfOk result (λ c. c ≡ cast_result (needs_slot cast) (part_name slot_prefix t at) (cast_expr cast e.now)) }
+fn cast_result(
+    alloc: Global,
+    cast: Bitcast,
+    at: usize,
+    t: u32,
+    e: &Expr,
+) -> Result<Expr, OutOfMemory>
+    requires operand { is_operand e.now ≡ true }
+    requires steps { HasSteps cast }
+    ensures same { IfOk result (λ c. c ≡ cast_result (needs_slot cast) (part_name slot_prefix t at) (cast_expr cast e.now)) }
+    ensures operand { IfOk result (λ c. is_operand c ≡ true) }
 {
     if needs_slot(cast) {
         return Ok(Expr::Local(slot_name(alloc, at, t)?));
     }
-    cast_copy(alloc, cast, e)
+    let copy = cast_copy(alloc, cast, e)?;
+    Ok(copy)
 }
 
 /// What casts give, in order.
@@ -283,12 +287,13 @@ fn push_casts(
     es: &[Expr],
     results: &mut List<ExprOperand>,
 ) -> Result<(), OutOfMemory>
+    requires operands { list_all is_operand es.now ≡ true }
     requires many { length es.now ≡ length casts.now }
-    requires few { length casts.now < 2 ^ 32 }
+    requires steps { All HasSteps casts.now }
     ensures { OnOk result (results.new ≡ results.old ++ map operand_of (casts_from 0 casts.now es.now t)) }
 {
     for i in 0..casts.len() {
-        let expr = cast_result(alloc, casts[i], i as u32, t, &es[i])?;
+        let expr = cast_result(alloc, casts[i], i, t, &es[i])?;
         results.push(ExprOperand { expr, kept: false })?;
     }
     Ok(())
@@ -298,8 +303,9 @@ impl FunctionBindgen {
     /// The number of the slots of casts, into which pointers are put.
     #[tactic(auto, unfolding(crate::specs::CastForms::slot_prefix))]
     fn add_slots(&mut self, casts: &[Bitcast], es: &[Expr]) -> Result<u32, OutOfMemory>
+        requires operands { list_all is_operand es.now ≡ true }
         requires many { length es.now ≡ length casts.now }
-        requires few { length casts.now < 2 ^ 32 }
+        requires steps { All HasSteps casts.now }
         ensures adds { IfOk result (λ t. Appends self.old self.new (stmts_from 0 casts.now es.now t) []) }
         ensures fresh { IfOk result (λ t. FreshAll self.old self.new (slots_from 0 casts.now t)) }
         ensures takes { IfOk result (λ t. Takes self.old.scope (λ k. slots_from 0 casts.now k) t self.new.scope) }
@@ -317,13 +323,10 @@ impl FunctionBindgen {
         operands: &List<ExprOperand>,
         results: &mut List<ExprOperand>,
     ) -> Result<(), OutOfMemory>
-        requires many { length operands.now ≡ length casts.now }
+        requires sendable { IsSendable func_meaning resolve.now (instruction.Bitcasts casts) operands.now self.old }
         requires empty { results.old ≡ [] }
         ensures { OnOk result (Emits func_meaning resolve.now.types (instruction.Bitcasts casts.entry) operands.now results.new self.old self.new) }
     {
-        if u32::try_from(casts.len()).is_err() {
-            return Err(OutOfMemory);
-        }
         let es = operand_exprs(self.alloc, operands.as_slice())?;
         let t = self.add_slots(casts, es.as_slice())?;
         push_casts(self.alloc, t, casts, es.as_slice(), results)?;

@@ -1,7 +1,8 @@
 //! Which method makes the code of an instruction.
 
-ghost use Rattle.std.specs.Prelude.{◌≡◌, [], OnOk};
+ghost use Rattle.std.specs.Prelude.{◌≡◌, [], true, OnOk};
 ghost use Rattle.abi_bindgen.specs.Instructions.{Emits, IsSendable};
+ghost use Rattle.func_gen.specs.Dispatch.{is_case_code, is_value_code};
 ghost use Rattle.func_gen.specs.Meaning.{func_meaning};
 
 use crate::function_bindgen::FunctionBindgen;
@@ -20,6 +21,7 @@ impl FunctionBindgen {
         results: &mut List<ExprOperand>,
     ) -> Result<(), OutOfMemory>
         requires sendable { IsSendable func_meaning resolve.now inst.now operands.now self.old }
+        requires value { is_value_code inst.now ≡ true }
         requires empty { results.old ≡ [] }
         ensures { OnOk result (Emits func_meaning resolve.now.types inst.now operands.now results.new self.old self.new) }
     {
@@ -55,6 +57,7 @@ impl FunctionBindgen {
         results: &mut List<ExprOperand>,
     ) -> Result<(), OutOfMemory>
         requires sendable { IsSendable func_meaning resolve.now inst.now operands.now self.old }
+        requires cases { is_case_code inst.now ≡ true }
         requires empty { results.old ≡ [] }
         ensures { OnOk result (Emits func_meaning resolve.now.types inst.now operands.now results.new self.old self.new) }
     {

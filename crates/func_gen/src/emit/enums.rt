@@ -1,11 +1,12 @@
 //! Enums become the numbers of their cases, and words cases.
 
-ghost use Rattle.std.specs.Prelude.{◌≡◌, ◌*◌, ◌^◌, [], Some, length, IfOk, OnOk};
+ghost use Rattle.std.specs.Prelude.{◌≡◌, ◌*◌, ◌^◌, [], Some, length, IfOk, OnOk, true};
 ghost use Rattle.wit_layout.specs.Extent.{discriminant_grain};
 ghost use Rattle.wrapper_values.specs.Flags.{repr_bits};
 ghost use Rattle.abi_bindgen.specs.Instructions.{Emits};
 ghost use Rattle.abi_bindgen.specs.declared.instruction.Instruction.TheVariants as instruction;
 ghost use Rattle.func_gen.specs.EnumForms.{HasCaseCount, IsEnum, IsEnumSite, LiftsBy, LiftsEnumAt, case_cast};
+ghost use Rattle.func_gen.specs.Operand.{is_operand};
 ghost use Rattle.func_gen.specs.Meaning.{func_meaning};
 
 use crate::added::{only_expr, only_operand};
@@ -119,7 +120,8 @@ fn enum_site<'a>(
 impl FunctionBindgen {
     /// The call that gives the case of a word's number.
     fn lifted_case(&self, resolve: &Resolve, id: TypeId, e: &Expr) -> Result<Expr, OutOfMemory>
-        requires { IsEnum resolve.now.types id.0 }
+        requires operand { is_operand e.now ≡ true }
+        requires kind { IsEnum resolve.now.types id.0 }
         ensures { IfOk result (λ c. LiftsEnumAt resolve.now.types self.now.sites id.0 e.now c) }
     {
         let site = enum_site(self.sites.as_slice(), resolve, id)?;

@@ -13,7 +13,7 @@ use crate::added::only_operand;
 use crate::emit::enums::repr_bits;
 use crate::flags_site::FlagsSite;
 use crate::function_bindgen::FunctionBindgen;
-use crate::operand::{ExprOperand, copy_expr, copy_path, is_operand};
+use crate::operand::{ExprOperand, copy_expr, copy_path};
 use crate::type_site::TypeSite;
 use rust_tree::Expr;
 use std::alloc::Global;
@@ -64,7 +64,7 @@ fn push_words(
     Ok(())
 }
 
-/// The expressions of operands, each shifted behind those before it. Of an expression that is no operand there is no memory.
+/// The expressions of operands, each shifted behind those before it.
 fn shifted_exprs(alloc: Global, operands: &[ExprOperand]) -> Result<List<(u32, Expr)>, OutOfMemory>
     requires { length operands.now ≤ 4 }
     ensures same { IfOk result (λ es. es ≡ shifted_from 0 (exprs_of operands.now)) }
@@ -72,9 +72,6 @@ fn shifted_exprs(alloc: Global, operands: &[ExprOperand]) -> Result<List<(u32, E
 {
     let mut es = List::new(alloc);
     for (at, operand) in operands.iter().enumerate() {
-        if !is_operand(&operand.expr) {
-            return Err(OutOfMemory);
-        }
         es.push((32 * at as u32, copy_expr(&operand.expr, alloc)?))?;
     }
     Ok(es)

@@ -1,12 +1,14 @@
 //! Operands get locals of their own.
 
-ghost use Rattle.std.specs.Prelude.{◌≡◌, ◌++◌, [], length, IfOk, OnOk};
+ghost use Rattle.std.specs.Prelude.{◌≡◌, ◌++◌, [], length, IfOk, OnOk, true};
+ghost use Rattle.std.specs.List.{list_all};
 ghost use Rattle.abi_bindgen.specs.Instructions.{Emits};
 ghost use Rattle.abi_bindgen.specs.declared.instruction.Instruction.TheVariants as instruction;
 ghost use Rattle.rust_tree.specs.declared.stmt.Stmt.TheVariants as stmt;
 ghost use Rattle.func_gen.specs.Added.{Appends};
 ghost use Rattle.func_gen.specs.CallForms.{FreshAll};
 ghost use Rattle.func_gen.specs.FlushForms.{flush_prefix, flushed, lets_of};
+ghost use Rattle.func_gen.specs.Operand.{is_operand};
 ghost use Rattle.func_gen.specs.Meaning.{func_meaning};
 ghost use Rattle.func_gen.specs.PartForms.{names_from};
 ghost use Rattle.func_gen.specs.Scope.{TakesAll};
@@ -20,6 +22,7 @@ use wit_model::{List, OutOfMemory, Resolve, Text};
 
 /// The statement that gives an expression a local.
 fn let_copy(alloc: Global, name: &Text, e: &Expr) -> Result<Stmt, OutOfMemory>
+    requires operand { is_operand e.now ≡ true }
     ensures { IfOk result (λ s. s ≡ stmt.Let name.now e.now) }
 {
     let name = name.copy(alloc)?;
@@ -33,6 +36,7 @@ fn push_lets(
     es: &[Expr],
     stmts: &mut List<Stmt>,
 ) -> Result<(), OutOfMemory>
+    requires operands { list_all is_operand es.now ≡ true }
     requires many { length names.now ≡ length es.now }
     ensures { OnOk result (stmts.new ≡ stmts.old ++ lets_of names.now es.now) }
 {
@@ -54,7 +58,8 @@ fn push_flushed(
 {
     for i in 0..operands.len() {
         let expr = Expr::Local(names[i].copy(alloc)?);
-        let kept = operands[i].kept;
+        let operand = &operands[i];
+        let kept = operand.kept;
         results.push(ExprOperand { expr, kept })?;
     }
     Ok(())
@@ -64,6 +69,7 @@ impl FunctionBindgen {
     /// The names of new locals, one for each expression, which get one number.
     #[tactic(auto, unfolding(crate::specs::FlushForms::flush_prefix))]
     fn add_lets(&mut self, count: u32, es: &[Expr]) -> Result<List<Text>, OutOfMemory>
+        requires operands { list_all is_operand es.now ≡ true }
         requires many { length es.now ≡ count }
         ensures adds { IfOk result (λ names. Appends self.old self.new (lets_of names es.now) []) }
         ensures fresh { IfOk result (λ names. FreshAll self.old self.new names) }

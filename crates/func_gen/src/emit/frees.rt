@@ -4,9 +4,10 @@ ghost use Rattle.std.specs.Prelude.{◌≡◌, [], ◌∷◌, ◌++◌, true, le
 ghost use Rattle.rust_tree.specs.declared.expr.Expr.TheVariants as expr;
 ghost use Rattle.rust_tree.specs.declared.stmt.Stmt.TheVariants as stmt;
 ghost use Rattle.rust_tree.specs.declared.runtime_item.RuntimeItem.TheVariants.{CabiDealloc};
-ghost use Rattle.abi_bindgen.specs.Instructions.{Emits};
+ghost use Rattle.abi_bindgen.specs.Instructions.{Emits, IsSendable};
 ghost use Rattle.abi_bindgen.specs.declared.instruction.Instruction.TheVariants as instruction;
 ghost use Rattle.func_gen.specs.Added.{Appends};
+ghost use Rattle.func_gen.specs.Operand.{is_operand};
 ghost use Rattle.func_gen.specs.Meaning.{func_meaning};
 ghost use Rattle.func_gen.specs.Forms.{runtime_path};
 ghost use Rattle.func_gen.specs.MemoryForms.{align_size, is_length};
@@ -19,13 +20,6 @@ use crate::operand::{ExprOperand, copy_expr};
 use rust_tree::{Expr, RuntimeItem, Stmt};
 use std::alloc::Global;
 use wit_model::{Alignment, ArchitectureSize, List, OutOfMemory, Resolve};
-
-/// Whether a size is a length, where a pointer has four bytes.
-fn is_length(size: &ArchitectureSize) -> bool
-    ensures { result ≡ is_length size.now }
-{
-    u128::from(size.bytes) + u128::from(size.pointers) * 4 < 0x1_0000_0000
-}
 
 /// An alignment as a size.
 fn align_size(align: Alignment) -> ArchitectureSize
@@ -46,6 +40,8 @@ fn align_size(align: Alignment) -> ArchitectureSize
 
 /// The arguments of the call that frees so many bytes at an address, but for the alignment.
 fn bytes_at(alloc: Global, address: &Expr, n: &Expr) -> Result<List<Expr>, OutOfMemory>
+    requires first { is_operand address.now ≡ true }
+    requires second { is_operand n.now ≡ true }
     ensures { IfOk result (λ es. es ≡ address.now ∷ n.now ∷ []) }
 {
     let mut arguments = List::new(alloc);
@@ -60,6 +56,7 @@ fn block_at(
     address: &Expr,
     size: ArchitectureSize,
 ) -> Result<List<Expr>, OutOfMemory>
+    requires operand { is_operand address.now ≡ true }
     ensures { IfOk result (λ es. es ≡ address.now ∷ expr.Size size ∷ []) }
 {
     let mut arguments = List::new(alloc);
@@ -98,7 +95,6 @@ impl FunctionBindgen {
         Ok(())
     }
 
-    /// A block of a size that is no length is none in memory.
     pub(crate) fn free_block(
         &mut self,
         resolve: &Resolve,
@@ -107,13 +103,10 @@ impl FunctionBindgen {
         operands: &List<ExprOperand>,
         results: &mut List<ExprOperand>,
     ) -> Result<(), OutOfMemory>
-        requires one { length operands.now ≡ 1 }
+        requires sendable { IsSendable func_meaning resolve.now (instruction.GuestDeallocate size align) operands.now self.old }
         requires empty { results.old ≡ [] }
         ensures { OnOk result (Emits func_meaning resolve.now.types (instruction.GuestDeallocate size align) operands.now results.new self.old self.new) }
     {
-        if !is_length(&size) {
-            return Err(OutOfMemory);
-        }
         let address = only_expr(operands)?;
         let block = block_at(self.alloc, address, size)?;
         self.add_free(block, align_size(align))?;

@@ -1,16 +1,17 @@
 //! Finished blocks become the arms of a match by numbers.
 
-ghost use Rattle.std.specs.Prelude.{◌≡◌, [], ◌∷◌, true, codes, length, reverse, IfOk, OnOk};
+ghost use Rattle.std.specs.Prelude.{◌≡◌, ◌<◌, ◌≤◌, ◌^◌, [], ◌∷◌, true, codes, length, reverse, take, IfOk, OnOk};
 ghost use Rattle.std.specs.List.{list_all};
 ghost use Rattle.rust_tree.specs.declared.stmt.MatchNames.TheVariants as names_of;
 ghost use Rattle.rust_tree.specs.declared.stmt.Stmt.TheVariants as stmt;
 ghost use Rattle.rust_tree.specs.declared.pattern.ArmPattern.TheVariants as pattern;
 ghost use Rattle.wrapper_run.specs.Inward as spec;
-ghost use Rattle.abi_bindgen.specs.Instructions.{Emits};
+ghost use Rattle.abi_bindgen.specs.Instructions.{Emits, IsSendable};
 ghost use Rattle.abi_bindgen.specs.declared.instruction.Instruction.TheVariants as instruction;
 ghost use Rattle.func_gen.specs.Added.{Appends, Fresh};
 ghost use Rattle.func_gen.specs.LiftedCases.{LiftsBy, are_few, case_body, case_expr, empty_case, invalid_body, is_liftable, is_unit, lifted_bodies, lifted_body, numbered_arms};
 ghost use Rattle.func_gen.specs.MatchForms.{arm_of, case_path};
+ghost use Rattle.func_gen.specs.Operand.{is_operand};
 ghost use Rattle.func_gen.specs.Meaning.{func_meaning};
 ghost use Rattle.func_gen.specs.PartForms.{exprs_of};
 ghost use Rattle.func_gen.specs.Scope.{TakesOne};
@@ -57,14 +58,14 @@ fn empty_case(alloc: Global, unit: bool, path: Path) -> Result<Expr, OutOfMemory
     call_of(alloc, path, Expr::Unit)
 }
 
-/// The case of what a block gives. Of more than one result there is no memory.
+/// The case of what a block gives: one result, or none.
 pub(crate) fn case_expr(
     alloc: Global,
     case: &CaseForm,
     results: &[ExprOperand],
 ) -> Result<Expr, OutOfMemory>
-    ensures same { IfOk result (λ e. e ≡ case_expr (is_unit case.now) (case_path case.now) (exprs_of results.now)) }
-    ensures few { IfOk result (λ e. are_few results.now ≡ true) }
+    requires few { are_few results.now ≡ true }
+    ensures { IfOk result (λ e. e ≡ case_expr (is_unit case.now) (case_path case.now) (exprs_of results.now)) }
 {
     let path = case_path(alloc, case)?;
     match results {
@@ -73,7 +74,7 @@ pub(crate) fn case_expr(
             let argument = copy_expr(&operand.expr, alloc)?;
             call_of(alloc, path, argument)
         }
-        _ => Err(OutOfMemory),
+        _ => unreachable!(),
     }
 }
 
@@ -84,8 +85,8 @@ pub(crate) fn case_body(
     stmts: List<Stmt>,
     results: &[ExprOperand],
 ) -> Result<Block, OutOfMemory>
+    requires few { are_few results.now ≡ true }
     ensures body { IfOk result (λ b. b ≡ case_body (is_unit case.now) (case_path case.now) stmts (exprs_of results.now)) }
-    ensures few { IfOk result (λ b. are_few results.now ≡ true) }
     ensures inward { IfOk result (λ b. spec.is_inward b ≡ true) }
 {
     let tail = case_expr(alloc, case, results)?;
@@ -94,8 +95,8 @@ pub(crate) fn case_body(
 
 /// The code of a block, and the case of what it gives. Of code that is not inward there is no memory.
 fn lifted_body(alloc: Global, case: &CaseForm, block: FinishedBlock) -> Result<Block, OutOfMemory>
+    requires few { is_liftable block ≡ true }
     ensures body { IfOk result (λ b. b ≡ lifted_body case.now block) }
-    ensures few { IfOk result (λ b. is_liftable block ≡ true) }
     ensures inward { IfOk result (λ b. spec.is_inward b ≡ true) }
 {
     let FinishedBlock {
@@ -110,15 +111,14 @@ fn lifted_body(alloc: Global, case: &CaseForm, block: FinishedBlock) -> Result<B
 /// The arm of a case by its number.
 fn numbered_arm(
     alloc: Global,
-    number: usize,
+    number: u32,
     case: &CaseForm,
     block: FinishedBlock,
 ) -> Result<Arm, OutOfMemory>
+    requires few { is_liftable block ≡ true }
     ensures arm { IfOk result (λ a. a ≡ arm_of (pattern.Number number) (lifted_body case.now block)) }
-    ensures few { IfOk result (λ a. is_liftable block ≡ true) }
     ensures inward { IfOk result (λ a. spec.is_inward (lifted_body case.now block) ≡ true) }
 {
-    let number = u32::try_from(number).map_err(|_| OutOfMemory)?;
     let body = lifted_body(alloc, case, block)?;
     let pattern = ArmPattern::Number(number);
     Ok(Arm { pattern, body })
@@ -141,17 +141,18 @@ pub(crate) fn lifted_arms(
     blocks: List<FinishedBlock>,
 ) -> Result<List<Arm>, OutOfMemory>
     requires many { length cases.now ≡ length blocks }
+    requires low { length cases.now < 2 ^ 32 }
+    requires few { list_all is_liftable (reverse blocks) ≡ true }
     ensures arms { IfOk result (λ arms. arms ≡ numbered_arms 0 (lifted_bodies cases.now (reverse blocks))) }
-    ensures few { IfOk result (λ arms. list_all is_liftable (reverse blocks) ≡ true) }
     ensures inward { IfOk result (λ arms. list_all spec.is_inward (lifted_bodies cases.now (reverse blocks)) ≡ true) }
 {
     let mut left = blocks.into_vec();
     let mut arms = List::new(alloc);
     for i in 0..cases.len() {
         let Some(block) = left.pop() else {
-            return Err(OutOfMemory);
+            unreachable!()
         };
-        arms.push(numbered_arm(alloc, i, &cases[i], block)?)?;
+        arms.push(numbered_arm(alloc, i as u32, &cases[i], block)?)?;
     }
     Ok(arms)
 }
@@ -159,6 +160,7 @@ pub(crate) fn lifted_arms(
 impl FunctionBindgen {
     /// The name of a new local for what the arms of a match give.
     fn add_match(&mut self, e: &Expr, arms: List<Arm>) -> Result<Text, OutOfMemory>
+        requires operand { is_operand e.now ≡ true }
         ensures adds { IfOk result (λ v. Appends self.old self.new (stmt.Match (names_of.One v) e.now arms ∷ []) []) }
         ensures fresh { IfOk result (λ v. Fresh self.old self.new v) }
         ensures takes { IfOk result (λ v. TakesOne self.old.scope (codes "v") v self.new.scope) }
@@ -171,6 +173,10 @@ impl FunctionBindgen {
 
     /// The name of a new local for the case that a word is, with an arm for each case. A number of no case ends the run.
     fn lift_cases(&mut self, cases: &[CaseForm], e: &Expr) -> Result<Text, OutOfMemory>
+        requires operand { is_operand e.now ≡ true }
+        requires low { length cases.now < 2 ^ 32 }
+        requires there { length cases.now ≤ length self.old.finished }
+        requires few { list_all is_liftable (take (length cases.now) (reverse self.old.finished)) ≡ true }
         ensures { IfOk result (λ v. LiftsBy cases.now e.now v self.old self.new) }
     {
         let blocks = self.use_blocks(cases.len())?;
@@ -192,7 +198,7 @@ impl FunctionBindgen {
         operands: &List<ExprOperand>,
         results: &mut List<ExprOperand>,
     ) -> Result<(), OutOfMemory>
-        requires one { length operands.now ≡ 1 }
+        requires sendable { IsSendable func_meaning resolve.now (instruction.OptionLift id) operands.now self.old }
         requires empty { results.old ≡ [] }
         ensures { OnOk result (Emits func_meaning resolve.now.types (instruction.OptionLift id) operands.now results.new self.old self.new) }
     {
@@ -211,7 +217,7 @@ impl FunctionBindgen {
         operands: &List<ExprOperand>,
         results: &mut List<ExprOperand>,
     ) -> Result<(), OutOfMemory>
-        requires one { length operands.now ≡ 1 }
+        requires sendable { IsSendable func_meaning resolve.now (instruction.ResultLift id) operands.now self.old }
         requires empty { results.old ≡ [] }
         ensures { OnOk result (Emits func_meaning resolve.now.types (instruction.ResultLift id) operands.now results.new self.old self.new) }
     {

@@ -1,20 +1,22 @@
 //! Finished blocks become the arms of a match by numbers, of which the last one tests its number: words become the cases of variants.
 
-ghost use Rattle.std.specs.Prelude.{◌≡◌, ◌+◌, [], ◌∷◌, false, true, length, IfOk, OnOk};
+ghost use Rattle.std.specs.Prelude.{◌≡◌, ◌<◌, ◌+◌, ◌≤◌, ◌^◌, [], ◌∷◌, false, true, length, reverse, take, IfOk, OnOk};
 ghost use Rattle.std.specs.List.{list_all};
 ghost use Rattle.rust_tree.specs.declared.pattern.ArmPattern.TheVariants as pattern;
 ghost use Rattle.rust_tree.specs.declared.stmt.Stmt.TheVariants as stmt;
 ghost use Rattle.wit_model.specs.Bytes.{Bytes};
 ghost use Rattle.wrapper_run.specs.Inward as spec;
-ghost use Rattle.abi_bindgen.specs.Instructions.{Emits};
+ghost use Rattle.abi_bindgen.specs.Instructions.{Emits, IsSendable};
 ghost use Rattle.abi_bindgen.specs.declared.instruction.Instruction.TheVariants as instruction;
 ghost use Rattle.func_gen.specs.CalledCases.{calls_case, is_called, is_other_module};
 ghost use Rattle.func_gen.specs.LiftedCases.{LiftsVariantBy, MemberArms, NamesCase, is_liftable, last_body};
 ghost use Rattle.func_gen.specs.MatchForms.{arm_of};
+ghost use Rattle.func_gen.specs.Operand.{is_operand};
 ghost use Rattle.func_gen.specs.Meaning.{func_meaning};
 ghost use Rattle.func_gen.specs.Scope.{is_used};
 
 use crate::added::only_expr;
+use crate::blocks_used::parted;
 use crate::case_form::CaseForm;
 use crate::emit::lifted_cases::{case_body, lifted_arms};
 use crate::emit::variants::variant_forms;
@@ -87,12 +89,12 @@ fn tested_stmts(
 fn last_arm(
     alloc: Global,
     name: Text,
-    number: usize,
+    number: u32,
     case: &CaseForm,
     block: FinishedBlock,
 ) -> Result<Arm, OutOfMemory>
+    requires few { is_liftable block ≡ true }
     ensures arm { IfOk result (λ a. a ≡ arm_of (pattern.Name name) (last_body name number case.now block)) }
-    ensures few { IfOk result (λ a. is_liftable block ≡ true) }
     ensures unnamed { IfOk result (λ a. is_used block.names name ≡ false) }
     ensures inward { IfOk result (λ a. spec.is_inward (last_body name number case.now block) ≡ true) }
 {
@@ -102,25 +104,13 @@ fn last_arm(
         stmts: later,
         results,
     } = block;
-    if number > u32::MAX as usize || names.contains(name.as_str()) {
+    if names.contains(name.as_str()) {
         return Err(OutOfMemory);
     }
-    let stmts = tested_stmts(alloc, &name, number as u32, later)?;
+    let stmts = tested_stmts(alloc, &name, number, later)?;
     let body = case_body(alloc, case, stmts, results.as_slice())?;
     let pattern = ArmPattern::Name(name);
     Ok(Arm { pattern, body })
-}
-
-/// The block that was finished last, and those before it, of blocks of which the last one is the first. Where there is none, there is no memory.
-fn parted(blocks: List<FinishedBlock>) -> Result<(FinishedBlock, List<FinishedBlock>), OutOfMemory>
-    ensures { IfOk result (λ parts. blocks ≡ parts.0 ∷ parts.1) }
-{
-    let mut left = blocks.into_vec();
-    if left.is_empty() {
-        return Err(OutOfMemory);
-    }
-    let block = left.remove(0);
-    Ok((block, List::from_vec(left)))
 }
 
 /// The arms of a variant's cases, made of blocks of which the last one is the first. The arm of the last case has the number under a name.
@@ -132,11 +122,13 @@ fn member_arms(
     blocks: List<FinishedBlock>,
 ) -> Result<List<Arm>, OutOfMemory>
     requires many { length blocks ≡ length cases.now + 1 }
+    requires low { length cases.now < 2 ^ 32 }
+    requires few { list_all is_liftable (reverse blocks) ≡ true }
     ensures { IfOk result (λ arms. MemberArms cases.now last.now number blocks arms) }
 {
-    let (block, others) = parted(blocks)?;
+    let (block, others) = parted(blocks);
     let mut arms = lifted_arms(alloc, cases, others)?;
-    let other = last_arm(alloc, number, cases.len(), last, block)?;
+    let other = last_arm(alloc, number, cases.len() as u32, last, block)?;
     arms.push(other)?;
     Ok(arms)
 }
@@ -168,6 +160,10 @@ impl FunctionBindgen {
         last: &CaseForm,
         e: &Expr,
     ) -> Result<Text, OutOfMemory>
+        requires operand { is_operand e.now ≡ true }
+        requires low { length cases.now < 2 ^ 32 }
+        requires there { length cases.now + 1 ≤ length self.old.finished }
+        requires few { list_all is_liftable (take (length cases.now + 1) (reverse self.old.finished)) ≡ true }
         ensures { IfOk result (λ v. (n : Bytes) × LiftsVariantBy cases.now last.now e.now n v self.old self.new) }
     {
         let blocks = self.use_blocks(cases.len() + 1)?;
@@ -186,7 +182,7 @@ impl FunctionBindgen {
         operands: &List<ExprOperand>,
         results: &mut List<ExprOperand>,
     ) -> Result<(), OutOfMemory>
-        requires one { length operands.now ≡ 1 }
+        requires sendable { IsSendable func_meaning resolve.now (instruction.VariantLift id) operands.now self.old }
         requires empty { results.old ≡ [] }
         ensures { OnOk result (Emits func_meaning resolve.now.types (instruction.VariantLift id) operands.now results.new self.old self.new) }
     {

@@ -1,29 +1,32 @@
 //! Finished blocks become the arms of a match.
 
-ghost use Rattle.std.specs.Prelude.{◌≡◌, ℕ, true, length, reverse, IfOk};
-ghost use Rattle.std.specs.List.{list_all};
+ghost use Rattle.std.specs.Prelude.{◌≡◌, ℕ, true, length, replicate, reverse, IfOk};
+ghost use Rattle.std.specs.List.{AllByRecursion, list_all};
+ghost use Rattle.abi_bindgen.specs.Instructions.{HasBlocks};
 ghost use Rattle.func_gen.specs.MatchForms.{BindsMatch, LowersBy, UsesArms, are_plain, is_lowerable, lowered_arm, lowered_arms, lowered_body, match_names, result_names, tail_of};
+ghost use Rattle.func_gen.specs.Meaning.{func_meaning};
 ghost use Rattle.func_gen.specs.PartForms.{exprs_of};
 ghost use Rattle.func_gen.specs.Scope.{names_at};
+ghost use Rattle.func_gen.specs.Operand.{is_operand};
 
 use crate::case_form::{CaseForm, case_pattern};
 use crate::emit::parts::part_names;
 use crate::function_bindgen::{FinishedBlock, FunctionBindgen};
 use crate::inward::inward_block;
-use crate::operand::{ExprOperand, copy_expr, copy_names, is_operand};
+use crate::operand::{ExprOperand, copy_expr, copy_names};
 use crate::scope::LocalName;
 use rust_tree::{Arm, Block, Expr, MatchNames, Stmt};
 use std::alloc::Global;
 use wit_model::{List, OutOfMemory, Text};
 
-/// The expressions of operands. Of an expression that is no operand there is no memory, nor of a word that is kept as a number.
+/// The expressions of operands. Of a word that is kept as a number there is no memory.
 fn plain_exprs(alloc: Global, operands: &[ExprOperand]) -> Result<List<Expr>, OutOfMemory>
     ensures same { IfOk result (λ es. es ≡ exprs_of operands.now) }
     ensures plain { IfOk result (λ es. are_plain operands.now ≡ true) }
 {
     let mut es = List::new(alloc);
     for operand in operands {
-        if operand.kept || !is_operand(&operand.expr) {
+        if operand.kept {
             return Err(OutOfMemory);
         }
         es.push(copy_expr(&operand.expr, alloc)?)?;
@@ -68,14 +71,12 @@ fn result_locals(alloc: Global, count: u32) -> Result<List<LocalName<'static>>, 
     Ok(names)
 }
 
-/// The code of a block that gives so many results. Of any other block there is no memory, nor of one whose code is not inward.
+/// The code of a block that gives so many results. Of one whose code is not inward there is no memory.
 fn lowered_body(alloc: Global, block: FinishedBlock, count: u32) -> Result<Block, OutOfMemory>
+    requires many { length block.results ≡ count }
     ensures body { IfOk result (λ b. b ≡ lowered_body block) }
     ensures fits { IfOk result (λ b. is_lowerable count block ≡ true) }
 {
-    if block.results.len() != count as usize {
-        return Err(OutOfMemory);
-    }
     let FinishedBlock {
         number: _,
         names: _,
@@ -86,13 +87,14 @@ fn lowered_body(alloc: Global, block: FinishedBlock, count: u32) -> Result<Block
     inward_block(stmts, tail_of(es))
 }
 
-/// The arm of a case, whose block gives so many results. Of any other block there is no memory, nor of one whose code is not inward.
+/// The arm of a case, whose block gives so many results. Of one whose code is not inward there is no memory.
 fn lowered_arm(
     alloc: Global,
     case: &CaseForm,
     block: FinishedBlock,
     count: u32,
 ) -> Result<Arm, OutOfMemory>
+    requires many { length block.results ≡ count }
     ensures arm { IfOk result (λ a. a ≡ lowered_arm case.now block) }
     ensures fits { IfOk result (λ a. is_lowerable count block ≡ true) }
 {
@@ -110,13 +112,14 @@ fn lowered_arms(
     count: u32,
 ) -> Result<List<Arm>, OutOfMemory>
     requires many { length cases.now ≡ length left.old.items }
+    requires each { AllByRecursion (λ b. length b.results ≡ count) (reverse left.old.items) }
     ensures arms { IfOk result (λ arms. arms ≡ lowered_arms cases.now (reverse left.old.items)) }
     ensures fit { IfOk result (λ arms. list_all (is_lowerable count) (reverse left.old.items) ≡ true) }
 {
     let mut arms = List::new(alloc);
     for case in cases {
         let Some(block) = left.pop() else {
-            return Err(OutOfMemory);
+            unreachable!()
         };
         arms.push(lowered_arm(alloc, case, block, count)?)?;
     }
@@ -126,6 +129,7 @@ fn lowered_arms(
 impl FunctionBindgen {
     /// The arms of cases, made of the blocks that were finished last, which are kept no more. Each block gives so many results.
     fn use_arms(&mut self, cases: &[CaseForm], count: u32) -> Result<List<Arm>, OutOfMemory>
+        requires blocks { HasBlocks func_meaning (replicate (length cases.now) count) self.old }
         ensures { IfOk result (λ arms. UsesArms cases.now count arms self.old self.new) }
     {
         let used = self.use_blocks(cases.len())?;
@@ -141,6 +145,7 @@ impl FunctionBindgen {
         arms: List<Arm>,
         count: u32,
     ) -> Result<List<Text>, OutOfMemory>
+        requires operand { is_operand e.now ≡ true }
         ensures { IfOk result (λ names. BindsMatch e.now arms count names self.old self.new) }
     {
         let locals = result_locals(self.alloc, count)?;
@@ -158,6 +163,8 @@ impl FunctionBindgen {
         e: &Expr,
         count: u32,
     ) -> Result<List<Text>, OutOfMemory>
+        requires operand { is_operand e.now ≡ true }
+        requires blocks { HasBlocks func_meaning (replicate (length cases.now) count) self.old }
         ensures { IfOk result (λ names. LowersBy cases.now e.now count names self.old self.new) }
     {
         let arms = self.use_arms(cases, count)?;

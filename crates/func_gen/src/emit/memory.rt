@@ -43,7 +43,7 @@ pub(crate) fn small_store(inst: &Instruction) -> Option<(ArchitectureSize, Small
     }
 }
 
-/// The expressions of the two operands. Of one that is no operand there is no memory, nor of a word that is kept as a number.
+/// The expressions of the two operands. Of a word that is kept as a number there is no memory.
 pub(crate) fn both_exprs(operands: &List<ExprOperand>) -> Result<(&Expr, &Expr), OutOfMemory>
     requires { length operands.now ≡ 2 }
     ensures both { IfOk result (λ es. operands.now ≡ operand_of es.0.now ∷ operand_of es.1.now ∷ []) }

@@ -1,17 +1,17 @@
 //! The method of an export is called.
 
 ghost use Rattle.std.specs.Prelude.{◌≡◌, [], false, Some, None, true, IfOk, OnOk};
-ghost use Rattle.abi_bindgen.specs.Instructions.{Emits};
+ghost use Rattle.abi_bindgen.specs.Instructions.{Emits, IsSendable};
 ghost use Rattle.abi_bindgen.specs.declared.instruction.Instruction.TheVariants as instruction;
 ghost use Rattle.func_gen.specs.Meaning.{func_meaning};
-ghost use Rattle.func_gen.specs.MethodForms.{CallsFor, CallsIn, is_uncalled};
+ghost use Rattle.func_gen.specs.MethodForms.{CallsFor, CallsIn};
 
 use crate::emit::calls::expressions;
 use crate::function_bindgen::FunctionBindgen;
 use crate::operand::ExprOperand;
 use crate::scope::{LocalName, numbered};
 use rust_tree::{CallBlock, Expr, to_rust_ident};
-use wit_model::{Function, FunctionKind, List, OutOfMemory, Resolve, Text};
+use wit_model::{Function, List, OutOfMemory, Resolve, Text};
 
 impl FunctionBindgen {
     /// All code so far goes into the block of the call. There is one, and it comes before the area is asked for.
@@ -22,13 +22,10 @@ impl FunctionBindgen {
         operands: &List<ExprOperand>,
         results: &mut List<ExprOperand>,
     ) -> Result<(), OutOfMemory>
-        requires exports { self.old.import ≡ false }
+        requires sendable { IsSendable func_meaning resolve.now (instruction.CallInterface func) operands.now self.old }
         requires empty { results.old ≡ [] }
         ensures { OnOk result (Emits func_meaning resolve.now.types (instruction.CallInterface func.entry) operands.now results.new self.old self.new) }
     {
-        if !is_freestanding(func) || !self.is_uncalled() {
-            return Err(OutOfMemory);
-        }
         let arguments = expressions(self.alloc, operands.as_slice())?;
         if func.result.is_none() {
             self.begin_call(func, arguments, None)?;
@@ -40,22 +37,13 @@ impl FunctionBindgen {
         Ok(())
     }
 
-    /// Whether no method was called so far, and the area was not asked for.
-    fn is_uncalled(&self) -> bool
-        ensures { result ≡ is_uncalled self.now.code.call self.now.asked }
-    {
-        match (&self.code.call, self.asked.as_slice()) {
-            (None, []) => true,
-            _ => false,
-        }
-    }
-
     /// The method's value is a new local, of this name.
     fn call_for_value(
         &mut self,
         func: &Function,
         arguments: List<Expr>,
     ) -> Result<Text, OutOfMemory>
+        requires closed { self.old.opened ≡ [] }
         ensures { IfOk result (λ name. CallsFor func.now arguments name self.old self.new) }
     {
         let value = LocalName {
@@ -76,6 +64,7 @@ impl FunctionBindgen {
         arguments: List<Expr>,
         value: Option<Text>,
     ) -> Result<(), OutOfMemory>
+        requires closed { self.old.opened ≡ [] }
         ensures calls { OnOk result (CallsIn func.now arguments value self.old self.new) }
         ensures scope { OnOk result (self.new.scope ≡ self.old.scope) }
     {
@@ -88,13 +77,5 @@ impl FunctionBindgen {
             arguments,
         });
         Ok(())
-    }
-}
-
-/// Whether a function is of no resource, and answers at once.
-fn is_freestanding(func: &Function) -> bool {
-    match func.kind {
-        FunctionKind::Freestanding => true,
-        _ => false,
     }
 }

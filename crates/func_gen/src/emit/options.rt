@@ -1,9 +1,10 @@
 //! Options become what their cases do.
 
 ghost use Rattle.std.specs.Prelude.{◌≡◌, [], ◌∷◌, true, codes, length, IfOk, OnOk};
-ghost use Rattle.abi_bindgen.specs.Instructions.{Emits};
+ghost use Rattle.wit_model.specs.WellFormed.{IsWellFormed};
+ghost use Rattle.abi_bindgen.specs.Instructions.{Emits, IsSendable};
 ghost use Rattle.abi_bindgen.specs.declared.instruction.Instruction.TheVariants as instruction;
-ghost use Rattle.func_gen.specs.CaseForms.{AreOptionForms, core_path};
+ghost use Rattle.func_gen.specs.CaseForms.{AreOptionForms, IsOption, core_path};
 ghost use Rattle.func_gen.specs.Meaning.{func_meaning};
 
 use crate::added::only_expr;
@@ -12,10 +13,9 @@ use crate::emit::parts::push_locals;
 use crate::forms::push_name;
 use crate::function_bindgen::FunctionBindgen;
 use crate::operand::ExprOperand;
-use crate::something::is_something;
 use rust_tree::Path;
 use std::alloc::Global;
-use wit_model::{List, OutOfMemory, Resolve, Text, TypeDefKind, TypeId};
+use wit_model::{List, OutOfMemory, Resolve, Text, TypeId};
 
 /// The path of a case of an option or a result.
 pub(crate) fn core_path(
@@ -44,19 +44,10 @@ pub(crate) fn option_forms(
     resolve: &Resolve,
     id: TypeId,
 ) -> Result<List<CaseForm>, OutOfMemory>
+    requires well { IsWellFormed resolve.now }
+    requires kind { IsOption resolve.now.types id.0 }
     ensures { IfOk result (λ forms. AreOptionForms resolve.now.types id.0 forms) }
 {
-    let types = resolve.types.as_slice();
-    let at = id.0 as usize;
-    if at >= types.len() {
-        return Err(OutOfMemory);
-    }
-    let TypeDefKind::Option(ty) = &types[at].kind else {
-        return Err(OutOfMemory);
-    };
-    if !is_something(resolve, *ty) {
-        return Err(OutOfMemory);
-    }
     let mut forms = List::new(alloc);
     forms.push(CaseForm::Bare(core_path(alloc, "option", "Option", "None")?))?;
     forms.push(CaseForm::Full(core_path(alloc, "option", "Option", "Some")?))?;
@@ -72,7 +63,7 @@ impl FunctionBindgen {
         operands: &List<ExprOperand>,
         results: &mut List<ExprOperand>,
     ) -> Result<(), OutOfMemory>
-        requires one { length operands.now ≡ 1 }
+        requires sendable { IsSendable func_meaning resolve.now (instruction.OptionLower id count) operands.now self.old }
         requires empty { results.old ≡ [] }
         ensures { OnOk result (Emits func_meaning resolve.now.types (instruction.OptionLower id count) operands.now results.new self.old self.new) }
     {

@@ -1,19 +1,21 @@
 //! Tuples are taken apart, and made of their parts.
 
 ghost use Rattle.std.specs.Prelude.{◌≡◌, ◌∷◌, ◌++◌, ℕ, [], true, length, IfOk, OnOk};
+ghost use Rattle.std.specs.List.{list_all};
 ghost use Rattle.rust_tree.specs.declared.pattern.Pattern.TheVariants as pattern;
 ghost use Rattle.rust_tree.specs.declared.stmt.Stmt.TheVariants as stmt;
 ghost use Rattle.abi_bindgen.specs.Instructions.{Emits};
 ghost use Rattle.abi_bindgen.specs.declared.instruction.Instruction.TheVariants as instruction;
 ghost use Rattle.func_gen.specs.Added.{Appends};
 ghost use Rattle.func_gen.specs.CallForms.{FreshAll};
+ghost use Rattle.func_gen.specs.Operand.{is_operand};
 ghost use Rattle.func_gen.specs.Meaning.{func_meaning};
 ghost use Rattle.func_gen.specs.PartForms.{are_operands, exprs_of, locals_of, names_from, part_prefix};
 ghost use Rattle.func_gen.specs.Scope.{TakesAll, names_at};
 
 use crate::added::only_expr;
 use crate::function_bindgen::FunctionBindgen;
-use crate::operand::{ExprOperand, copy_expr, copy_names, is_operand};
+use crate::operand::{ExprOperand, copy_expr, copy_names};
 use crate::scope::LocalName;
 use rust_tree::{Expr, Pattern, Stmt};
 use std::alloc::Global;
@@ -29,25 +31,23 @@ pub(crate) fn part_names(
 {
     let mut names = List::new(alloc);
     for part in 0..count {
-        let part = Some(part);
+        let part = Some(part as usize);
         names.push(LocalName { prefix, part })?;
     }
     Ok(names)
 }
 
-/// The expressions of operands. Of an expression that is no operand there is no memory.
+/// The expressions of operands.
 pub(crate) fn operand_exprs(
     alloc: Global,
     operands: &[ExprOperand],
 ) -> Result<List<Expr>, OutOfMemory>
     ensures same { IfOk result (λ es. es ≡ exprs_of operands.now) }
     ensures operands { IfOk result (λ es. are_operands operands.now ≡ true) }
+    ensures each { IfOk result (λ es. list_all is_operand es ≡ true) }
 {
     let mut es = List::new(alloc);
     for operand in operands {
-        if !is_operand(&operand.expr) {
-            return Err(OutOfMemory);
-        }
         es.push(copy_expr(&operand.expr, alloc)?)?;
     }
     Ok(es)
@@ -70,6 +70,7 @@ pub(crate) fn push_locals(
 
 /// The statement that takes a tuple apart.
 fn let_tuple(alloc: Global, names: &[Text], e: &Expr) -> Result<Stmt, OutOfMemory>
+    requires operand { is_operand e.now ≡ true }
     ensures { IfOk result (λ s. s ≡ stmt.LetParts (pattern.Tuple names.now) e.now) }
 {
     let names = copy_names(names, alloc)?;
@@ -81,6 +82,7 @@ impl FunctionBindgen {
     /// The names of new locals, one for each part of a tuple.
     #[tactic(auto, unfolding(crate::specs::PartForms::part_prefix))]
     fn add_parts(&mut self, count: u32, e: &Expr) -> Result<List<Text>, OutOfMemory>
+        requires operand { is_operand e.now ≡ true }
         ensures adds { IfOk result (λ names. Appends self.old self.new (stmt.LetParts (pattern.Tuple names) e.now ∷ []) []) }
         ensures fresh { IfOk result (λ names. FreshAll self.old self.new names) }
         ensures takes { IfOk result (λ names. TakesAll self.old.scope (λ k. names_from part_prefix k 0 count) names self.new.scope) }

@@ -5,6 +5,7 @@ ghost use Rattle.rust_tree.specs.declared.pattern.Pattern.TheVariants as pattern
 ghost use Rattle.rust_tree.specs.declared.stmt.Stmt.TheVariants as stmt;
 ghost use Rattle.abi_bindgen.specs.Instructions.{Emits};
 ghost use Rattle.abi_bindgen.specs.declared.instruction.Instruction.TheVariants as instruction;
+ghost use Rattle.func_gen.specs.Operand.{is_operand};
 ghost use Rattle.func_gen.specs.Meaning.{func_meaning};
 ghost use Rattle.func_gen.specs.PartForms.{are_operands, exprs_of};
 ghost use Rattle.func_gen.specs.RecordForms.{DeclaresFields, HasFieldCount, IsARecord, IsSiteOf, MakesRecord, SplitsRecord, locals_for};
@@ -13,7 +14,7 @@ ghost use Rattle.func_gen.specs.Scope.{names_at};
 use crate::added::only_expr;
 use crate::emit::parts::push_locals;
 use crate::function_bindgen::FunctionBindgen;
-use crate::operand::{ExprOperand, copy_expr, copy_path, is_operand};
+use crate::operand::{ExprOperand, copy_expr, copy_path};
 use crate::record_site::RecordSite;
 use crate::scope::{LocalName, Scope};
 use crate::type_site::TypeSite;
@@ -32,7 +33,7 @@ fn field_count(resolve: &Resolve, id: TypeId) -> usize
     }
 }
 
-/// Each field with the expression of an operand. Of an expression that is no operand there is no memory.
+/// Each field with the expression of an operand.
 fn field_exprs(
     alloc: Global,
     fields: &[Text],
@@ -44,9 +45,6 @@ fn field_exprs(
 {
     let mut es = List::new(alloc);
     for (at, operand) in operands.iter().enumerate() {
-        if !is_operand(&operand.expr) {
-            return Err(OutOfMemory);
-        }
         let field = fields[at].copy(alloc)?;
         es.push((field, copy_expr(&operand.expr, alloc)?))?;
     }
@@ -99,7 +97,8 @@ fn let_fields(
     names: &[Text],
     e: &Expr,
 ) -> Result<Stmt, OutOfMemory>
-    requires { length names.now ≡ length site.now.fields }
+    requires operand { is_operand e.now ≡ true }
+    requires many { length names.now ≡ length site.now.fields }
     ensures { IfOk result (λ s. s ≡ stmt.LetParts (pattern.Record site.now.lowered (zip site.now.fields names.now)) e.now) }
 {
     let pattern = record_pattern(alloc, site, names)?;
@@ -182,7 +181,8 @@ impl FunctionBindgen {
         id: TypeId,
         e: &Expr,
     ) -> Result<List<Text>, OutOfMemory>
-        requires { IsARecord resolve.now.types id.0 }
+        requires operand { is_operand e.now ≡ true }
+        requires kind { IsARecord resolve.now.types id.0 }
         ensures { IfOk result (λ names. SplitsRecord resolve.now.types id.0 e.now names self.old self.new) }
     {
         let site = record_site(self.sites.as_slice(), resolve, id)?;

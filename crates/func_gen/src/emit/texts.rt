@@ -9,6 +9,7 @@ ghost use Rattle.abi_bindgen.specs.declared.instruction.Instruction.TheVariants 
 ghost use Rattle.func_gen.specs.Added.{Appends};
 ghost use Rattle.func_gen.specs.CallForms.{FreshAll};
 ghost use Rattle.func_gen.specs.Forms.{operand_of, runtime_call};
+ghost use Rattle.func_gen.specs.Operand.{is_operand};
 ghost use Rattle.func_gen.specs.Meaning.{func_meaning};
 ghost use Rattle.func_gen.specs.Scope.{Takes, with_number};
 ghost use Rattle.func_gen.specs.TextForms.{buffer_stmts, buffer_words, bytes_name, forget_path, forgotten, len_name, ptr_name, taken_stmts, text_name, vec_name};
@@ -150,6 +151,8 @@ impl FunctionBindgen {
 
     /// The locals of a text that is taken over, with this number: its length, of this name, its bytes, and itself.
     fn push_taken(&mut self, t: u32, len: Text, address: &Expr, n: &Expr) -> Result<(), OutOfMemory>
+        requires first { is_operand address.now ≡ true }
+        requires second { is_operand n.now ≡ true }
         requires name { len ≡ len_name t }
         ensures adds { OnOk result (Appends self.old self.new (taken_stmts t address.now n.now) []) }
         ensures scope { OnOk result (self.new.scope ≡ self.old.scope) }

@@ -1,11 +1,13 @@
 //! Values with cases become what their cases do.
 
 ghost use Rattle.std.specs.Prelude.{◌≡◌, [], Some, length, IfOk, OnOk};
-ghost use Rattle.std.specs.List.{AllByRecursion};
+ghost use Rattle.wit_model.specs.WellFormed.{IsWellFormed};
+ghost use Rattle.wit_model.specs.declared.types.TypeDefKind.TheVariants as kind_of;
 ghost use Rattle.wrapper_values.specs.Fields.{root_name};
-ghost use Rattle.abi_bindgen.specs.Instructions.{Emits};
+ghost use Rattle.abi_bindgen.specs.HasList.{IsKindOf};
+ghost use Rattle.abi_bindgen.specs.Instructions.{Emits, IsSendable};
 ghost use Rattle.abi_bindgen.specs.declared.instruction.Instruction.TheVariants as instruction;
-ghost use Rattle.func_gen.specs.CaseForms.{AreVariantForms, IsSome, member_form, member_forms, member_path, variant_at};
+ghost use Rattle.func_gen.specs.CaseForms.{AreVariantForms, IsVariant, member_form, member_forms, member_path, variant_at};
 ghost use Rattle.func_gen.specs.Meaning.{func_meaning};
 
 use crate::added::only_expr;
@@ -13,7 +15,6 @@ use crate::case_form::CaseForm;
 use crate::emit::parts::push_locals;
 use crate::function_bindgen::FunctionBindgen;
 use crate::operand::ExprOperand;
-use crate::something::is_something;
 use crate::type_site::TypeSite;
 use crate::variant_site::VariantSite;
 use rust_tree::Path;
@@ -37,20 +38,15 @@ fn member_path(alloc: Global, ty: &Text, case: &Text) -> Result<Path, OutOfMemor
 /// The form of a case of a type of the file.
 fn member_form(
     alloc: Global,
-    resolve: &Resolve,
     ty: &Text,
     case: &Text,
     payload: Option<WitType>,
 ) -> Result<CaseForm, OutOfMemory>
-    ensures form { IfOk result (λ f. f ≡ member_form ty.now case.now payload) }
-    ensures some { IfOk result (λ f. IsSome resolve.now.types payload) }
+    ensures { IfOk result (λ f. f ≡ member_form ty.now case.now payload) }
 {
     let path = member_path(alloc, ty, case)?;
-    let Some(payload) = payload else {
+    if payload.is_none() {
         return Ok(CaseForm::Bare(path));
-    };
-    if !is_something(resolve, payload) {
-        return Err(OutOfMemory);
     }
     Ok(CaseForm::Full(path))
 }
@@ -58,18 +54,16 @@ fn member_form(
 /// Those of all its cases.
 fn member_forms(
     alloc: Global,
-    resolve: &Resolve,
     ty: &Text,
     names: &[Text],
     members: &[Case],
 ) -> Result<List<CaseForm>, OutOfMemory>
     requires { length names.now ≡ length members.now }
-    ensures forms { IfOk result (λ forms. forms ≡ member_forms ty.now names.now members.now) }
-    ensures some { IfOk result (λ forms. AllByRecursion (λ c. IsSome resolve.now.types c.ty) members.now) }
+    ensures { IfOk result (λ forms. forms ≡ member_forms ty.now names.now members.now) }
 {
     let mut forms = List::new(alloc);
     for i in 0..names.len() {
-        forms.push(member_form(alloc, resolve, ty, &names[i], members[i].ty)?)?;
+        forms.push(member_form(alloc, ty, &names[i], members[i].ty)?)?;
     }
     Ok(forms)
 }
@@ -101,6 +95,17 @@ fn variant_site(sites: &[Option<TypeSite>], id: TypeId) -> Result<&VariantSite, 
     Ok(site)
 }
 
+/// The cases of the variant at a place of the table.
+fn variant_cases(resolve: &Resolve, id: TypeId) -> &[Case]
+    requires { IsVariant resolve.now.types id.0 }
+    ensures { IsKindOf resolve.now.types id.0 (kind_of.Variant result.now) }
+{
+    match &resolve.types.as_slice()[id.0 as usize].kind {
+        TypeDefKind::Variant(members) => members.as_slice(),
+        _ => unreachable!(),
+    }
+}
+
 /// The forms of the cases of a variant of the table. Of one without a site, or with other cases in number, there is no memory.
 pub(crate) fn variant_forms(
     alloc: Global,
@@ -108,28 +113,17 @@ pub(crate) fn variant_forms(
     sites: &[Option<TypeSite>],
     id: TypeId,
 ) -> Result<List<CaseForm>, OutOfMemory>
+    requires well { IsWellFormed resolve.now }
+    requires kind { IsVariant resolve.now.types id.0 }
     ensures { IfOk result (λ forms. AreVariantForms resolve.now.types sites.now id.0 forms) }
 {
     let site = variant_site(sites, id)?;
     let name = name_at_root(&site.lowered)?;
-    let types = resolve.types.as_slice();
-    let at = id.0 as usize;
-    if at >= types.len() {
+    let members = variant_cases(resolve, id);
+    if site.cases.len() != members.len() {
         return Err(OutOfMemory);
     }
-    let TypeDefKind::Variant(members) = &types[at].kind else {
-        return Err(OutOfMemory);
-    };
-    if site.cases.len() != members.len() || members.len() > u32::MAX as usize {
-        return Err(OutOfMemory);
-    }
-    member_forms(
-        alloc,
-        resolve,
-        name,
-        site.cases.as_slice(),
-        members.as_slice(),
-    )
+    member_forms(alloc, name, site.cases.as_slice(), members)
 }
 
 impl FunctionBindgen {
@@ -141,7 +135,7 @@ impl FunctionBindgen {
         operands: &List<ExprOperand>,
         results: &mut List<ExprOperand>,
     ) -> Result<(), OutOfMemory>
-        requires one { length operands.now ≡ 1 }
+        requires sendable { IsSendable func_meaning resolve.now (instruction.VariantLower id count) operands.now self.old }
         requires empty { results.old ≡ [] }
         ensures { OnOk result (Emits func_meaning resolve.now.types (instruction.VariantLower id count) operands.now results.new self.old self.new) }
     {

@@ -1,15 +1,16 @@
-use Rattle.std.proofs.Common.{◌≡◌, true, false, length, sym, ap, ◌∙◌}
+use Rattle.std.proofs.Common.{◌≡◌, true, false, length, refl, sym, ap, ◌∙◌, subst}
 use Rattle.std.specs.List.{list_all}
+use Rattle.abi_bindgen.specs.Constants.{AreCasts}
 use Rattle.abi_bindgen.specs.SlotCasts.{casts_between, is_no_cast}
 use Rattle.abi_bindgen.proofs.CastSteps.{casting_sent, casts_sent, no_cast_needed, nothing_cast}
-use Rattle.abi_bindgen.proofs.WordBits.{casts_length}
+use Rattle.abi_bindgen.proofs.WordBits.{are_casts, casts_length}
 use Rattle.abi_bindgen.proofs.casts.cast_words.Goals as goal
 
 pub send-requires : goal.send-requires
 send-requires g c =
     let same = c.as_slice-casts.ensures ∙ c.in_ok-casts.ensures.casts in
     let many : length c.args.words ≡ length c.as_slice-casts.result.now = c.requires.enough ∙ sym (ap length same ∙ casts_length c.args.froms.now c.args.tos.now c.requires.ordered) in
-    record { operands = many; suits = tt }
+    record { built = refl; operands = many; suits = (c.args.froms.now, c.args.tos.now, subst (AreCasts c.args.froms.now c.args.tos.now) (sym same) (are_casts c.args.froms.now c.args.tos.now c.requires.ordered)) }
 
 pub returns-then-change_nothing : goal.returns-then-change_nothing
 returns-then-change_nothing g c =

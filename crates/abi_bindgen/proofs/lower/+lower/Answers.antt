@@ -89,7 +89,7 @@ lower_id-lower_by-requires-in-Flags g t c =
     let at = entry_at types c.as_slice-types.result.now c.args.id.0 d c.as_slice-types.ensures c.requires.within c.index-types-at.is in
     let members = c.in-Flags.field-0 in
     let is = kind_at c.as_slice-types.result.now c.args.id.0 d (kind.Flags members) c.index-types-at.is c.in-Flags.is in
-    record { operands = refl; suits = (length members, (members, record { entry = d; stands = at; kind = is }, refl)) }
+    record { built = refl; operands = refl; suits = (length members, (members, record { entry = d; stands = at; kind = is }, refl)) }
 
 pub lower_id-returns-in_ok-words-in-Flags : goal.lower_id-returns-in_ok-words-in-Flags
 lower_id-returns-in_ok-words-in-Flags g t c =
@@ -107,7 +107,7 @@ lower_id-returns-in_ok-words-in-Flags g t c =
     }
 
 pub lower_record-lower_by-requires : goal.lower_record-lower_by-requires
-lower_record-lower_by-requires g t c = record { operands = refl; suits = (c.args.members.now, record { entry = c.requires.here.entry; at = c.requires.here.stands; kind = c.requires.here.kind }) }
+lower_record-lower_by-requires g t c = record { built = refl; operands = refl; suits = (c.args.members.now, record { entry = c.requires.here.entry; at = c.requires.here.stands; kind = c.requires.here.kind }) }
 
 pub lower_record-lower_parts-requires : goal.lower_record-lower_parts-requires
 lower_record-lower_parts-requires g t c κs within =
@@ -398,7 +398,7 @@ lower_variant-lower_by-requires g t c =
     let many : n ≡ case_words r.types (payloads_of kind) = c.in_ok-count.ensures.words ∙ ap (case_words r.types) is in
     let blocks = subst (λ (ps : List (Option WitType)). LowersCases m c.args.realloc (payloads_in (shapes r.types) ps) 0 (shared_slots r.types ps) c.args.bindgen.now c.lower_cases.new.bindgen) is c.in_ok-count.ensures.lowers in
     subst (λ (i : Instruction). IsSendable m r i (c.args.value ∷ []) c.lower_cases.new.bindgen) (sym c.case_lowering-inst.ensures)
-    (variant_sendable m g.met.B.Bindgen.sound r c.requires.down c.args.id c.args.realloc _ _ kind n c.args.value c.requires.here c.requires.cases many blocks)
+    (variant_sendable m g.met.B.Bindgen.sound r c.requires.down c.args.id c.args.realloc _ _ c.requires.well kind n c.args.value c.requires.here c.requires.cases many blocks)
 
 pub lower_variant-returns : goal.lower_variant-returns
 lower_variant-returns g t c =

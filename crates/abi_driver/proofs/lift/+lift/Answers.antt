@@ -132,14 +132,14 @@ lift_id-send_one-requires-clause-ready g t c =
     let same : c.as_slice-tys.result.now ≡ map (λ (f : Field). f.ty) members = c.as_slice-tys.ensures ∙ c.in_ok-tys-in-Record.ensures ∙ ap (map (λ (f : Field). f.ty)) c.as_slice.ensures in
     let here : IsRecord types c.args.id.0 members = record { entry = d; at = at; kind = is } in
     let count : length c.in_ok-lifted-in-Record.lifted.parts ≡ length members = c.in_ok-lifted-in-Record.ensures.count ∙ ap length same ∙ length-map members (λ (f : Field). f.ty) in
-    record { operands = λ others other. count ∙ ap length (one_record types c.args.id.0 members others here other); suits = (members, here) }
+    record { built = refl; operands = λ others other. count ∙ ap length (one_record types c.args.id.0 members others here other); suits = (members, here) }
 
 pub lift_id-send_one-requires-clause-makes : goal.lift_id-send_one-requires-clause-makes
 lift_id-send_one-requires-clause-makes g t c = λ k h. h
 
 pub lift_id-send_one-requires-in-Tuple : goal.lift_id-send_one-requires-in-Tuple
 lift_id-send_one-requires-in-Tuple g t c =
-    record { ready = record { operands = c.in_ok-lifted-in-Tuple.ensures.count ∙ sym c.part_count.ensures; suits = tt }; makes = λ k h. h }
+    record { ready = record { built = refl; operands = c.in_ok-lifted-in-Tuple.ensures.count ∙ sym c.part_count.ensures; suits = tt }; makes = λ k h. h }
 
 pub lift_id-lift_parts-requires-in-Tuple : goal.lift_id-lift_parts-requires-in-Tuple
 lift_id-lift_parts-requires-in-Tuple g t c κs within =
@@ -676,7 +676,7 @@ lift_variant-send_one-requires g t c =
     let shared = take (c.args.at + f.count - (c.args.at + 1)) (drop (c.args.at + 1) c.args.words.now) in
     let blocks = subst (λ (ds : List WasmType). LiftsCases m (payloads_in (shapes types) (payloads_of kind)) (result_counts (payloads_of kind)) ds shared c.args.bindgen.now c.lift_cases.new.bindgen) told
     (subst (λ (ps : List (Option WitType)). LiftsCases m (payloads_in (shapes types) ps) (result_counts ps) (take (f.count - 1) (drop 1 f.words)) shared c.args.bindgen.now c.lift_cases.new.bindgen) same c.in_ok-lift_cases.ensures.lifts) in
-    let ready = variant_liftable m g.met.B.Bindgen.sound r c.requires.down c.args.id _ _ shared kind c.in_ok-tag.tag c.requires.here c.requires.cases blocks in
+    let ready = variant_liftable m g.met.B.Bindgen.sound r c.requires.down c.args.id _ _ shared c.requires.well kind c.in_ok-tag.tag c.requires.here c.requires.cases blocks in
     record {
       ready = subst (λ (i : Instruction). IsSendable m r i c.in_ok-operands.operands c.lift_cases.new.bindgen) (sym c.case_lifting.ensures)
           (subst (λ (os : List g.row.B-Operand.Denot). IsSendable m r (case_lifting kind c.args.id) os c.lift_cases.new.bindgen) (sym c.in_ok-operands.ensures) ready);

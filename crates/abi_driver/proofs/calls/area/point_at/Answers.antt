@@ -1,5 +1,5 @@
 use Rattle.abi_driver.proofs.AreaAsked.{asks_for, is_power, sends_asking}
-use Rattle.abi_driver.proofs.LowPlaces.{sized}
+use Rattle.abi_driver.proofs.LowPlaces.{sized, small_size}
 use Rattle.abi_driver.proofs.calls.area.point_at.Goals as goal
 
 pub size-size-requires : goal.size-size-requires
@@ -15,7 +15,12 @@ align-align-requires g c =
 pub return_pointer-requires : goal.return_pointer-requires
 return_pointer-requires g c =
     let types = c.args.resolve.now.types in
-    record { aligned = is_power types c.args.ty c.align-align.result (c.align-align.ensures types (c.sizes-sizes.ensures types c.requires.knows)) }
+    let filled = c.sizes-sizes.ensures types c.requires.knows in
+    record {
+      closed = c.requires.closed;
+      small = small_size c.sizes-sizes.result.now types filled c.args.ty c.requires.below c.size-size.result (c.size-size.ensures types filled);
+      aligned = is_power types c.args.ty c.align-align.result (c.align-align.ensures types filled);
+    }
 
 pub returns : goal.returns
 returns g c =

@@ -1,3 +1,4 @@
+use Rattle.std.proofs.Common.{arith}
 use mathlib.Core.Logic.{inr}
 use Rattle.abi_driver.proofs.AreaAsked.{asks_for_record, record_is_power, sends_asking_record}
 use Rattle.abi_driver.proofs.LowPlaces.{small_fits}
@@ -15,7 +16,13 @@ record_of-align-requires-clause-room g c =
 pub return_pointer-requires : goal.return_pointer-requires
 return_pointer-requires g c =
     let types = c.args.resolve.now.types in
-    record { aligned = record_is_power types c.args.tys.now _ (c.record_of-align.ensures.align types (c.sizes-sizes.ensures types c.requires.knows)) }
+    let filled = c.sizes-sizes.ensures types c.requires.knows in
+    let size = c.record_of-align.ensures.size types filled in
+    record {
+      closed = c.requires.closed;
+      small = omega (arith, size.1, c.requires.small);
+      aligned = record_is_power types c.args.tys.now _ (c.record_of-align.ensures.align types filled);
+    }
 
 pub returns : goal.returns
 returns g c =

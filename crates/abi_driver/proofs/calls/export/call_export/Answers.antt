@@ -1,4 +1,4 @@
-use Rattle.std.proofs.Common.{◌≡◌, ◌<◌, ◌^◌, [], ◌∷◌, ◌++◌, List, length, map, sym, ap, ◌∙◌, subst, arith}
+use Rattle.std.proofs.Common.{◌≡◌, ◌<◌, ◌^◌, [], ◌∷◌, ◌++◌, List, length, map, refl, sym, ap, ◌∙◌, subst, arith}
 use Rattle.std.specs.List.{list_all}
 use Rattle.std.proofs.lemmas.List.{length-map}
 use Rattle.std.proofs.lemmas.List.Folds.{list_all-map}
@@ -77,6 +77,9 @@ give_answer-requires-clause-down g c = types_go_down c.args.resolve.now c.requir
 pub give_answer-requires-clause-below : goal.give_answer-requires-clause-below
 give_answer-requires-clause-below g c = result_in_table c.args.resolve.now c.args.func.now c.requires.within
 
+pub give_answer-requires-clause-closed : goal.give_answer-requires-clause-closed
+give_answer-requires-clause-closed g c = c.in_ok-answer.ensures.adds.opened ∙ c.in_ok-values.ensures.takes.adds.grows.opened ∙ c.requires.fresh.closed
+
 pub give_answer-requires-clause-serves : goal.give_answer-requires-clause-serves
 give_answer-requires-clause-serves g c = c.requires.serves.result
 
@@ -88,10 +91,19 @@ send-requires g c =
     let types = c.args.resolve.now.types in
     let f = c.args.func.now in
     let same : c.as_slice-2.result.now ≡ map (λ (p : Param). p.ty) f.params = c.as_slice-2.ensures ∙ c.in_ok-tys.ensures ∙ ap (map (λ (p : Param). p.ty)) c.as_slice.ensures in
+    let adds = c.in_ok-values.ensures.takes.adds in
+    let fresh = c.requires.fresh in
     record {
+      built = refl;
       operands = c.in_ok-values.ensures.takes.many ∙ count-shapes types c.as_slice-2.result.now ∙ ap length same ∙ length-map f.params (λ (p : Param). p.ty);
-      suits = c.in_ok-values.ensures.takes.adds.grows.exports ∙ c.requires.side;
+      suits = (adds.grows.exports ∙ c.requires.side, c.requires.serves.plain, record { closed = adds.grows.opened ∙ fresh.closed; unasked = adds.asked ∙ fresh.unasked; uncalled = adds.uncalled fresh.uncalled });
     }
+
+pub send-requires-2 : goal.send-requires-2
+send-requires-2 g c =
+    let r = result_shape c.args.resolve.now.types c.args.func.now in
+    let count = given_words g.B.Bindgen.meaning c.args.resolve.now.types r c.as_slice-3.result.now c.in_ok-given.given _ _ c.in_ok-given.ensures.gives in
+    record { built = refl; operands = sym c.len-given_count.ensures; suits = omega (arith, c.len-given_count.ensures, count, few_words r) }
 
 pub overflow_cast-given_count : goal.overflow_cast-given_count
 overflow_cast-given_count g c =

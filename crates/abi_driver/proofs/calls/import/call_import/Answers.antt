@@ -1,4 +1,4 @@
-use Rattle.std.proofs.Common.{◌≡◌, ◌<◌, ◌^◌, ◌++◌, [], ◌∷◌, List, if◌then◌else◌, length, map, sym, ap, ap₂, ◌∙◌, subst, arith}
+use Rattle.std.proofs.Common.{◌≡◌, ◌<◌, ◌^◌, ◌++◌, [], ◌∷◌, List, if◌then◌else◌, length, map, refl, sym, ap, ap₂, ◌∙◌, subst, arith}
 use Rattle.std.specs.List.{list_all}
 use Rattle.std.specs.Prelude.{option_to_list}
 use Rattle.std.proofs.lemmas.List.{length-map}
@@ -88,6 +88,9 @@ read_answer-requires-clause-below g c = result_in_table c.args.resolve.now c.arg
 pub point_at_result-requires-clause-knows : goal.point_at_result-requires-clause-knows
 point_at_result-requires-clause-knows g c = c.in_ok-words.ensures.passes.grows.knows c.args.resolve.now.types c.requires.knows
 
+pub point_at_result-requires-clause-closed : goal.point_at_result-requires-clause-closed
+point_at_result-requires-clause-closed g c = c.in_ok-words.ensures.passes.grows.opened ∙ c.requires.closed
+
 pub read_answer-requires-clause-serves : goal.read_answer-requires-clause-serves
 read_answer-requires-clause-serves g c = c.requires.serves.result
 
@@ -126,13 +129,18 @@ send-requires g c =
     let same : c.as_slice-2.result.now ≡ map (λ (p : Param). p.ty) f.params = c.as_slice-2.ensures ∙ c.in_ok-tys.ensures ∙ ap (map (λ (p : Param). p.ty)) c.as_slice.ensures in
     let passes = subst (λ (tys : List WitType). PassesArguments m (shapes_of types tys) words c.args.bindgen.now c.pass_arguments.new.bindgen) same c.in_ok-words.ensures.passes in
     let all : c.in_ok-all.all ≡ words ++ pointer = c.in_ok-all.ensures ∙ ap₂ (λ xs ys. xs ++ ys) c.as_slice-3.ensures c.as_slice-4.ensures in
+    let points = (points_grows m g.met.B.Bindgen.sound (result_shape types f) pointer _ _ c.in_ok-pointer.ensures.points).0 in
     record {
+      built = refl;
       operands = ap length all ∙ words_count m types f words pointer _ _ _ _ passes c.in_ok-pointer.ensures.points;
-      suits = ((points_grows m g.met.B.Bindgen.sound (result_shape types f) pointer _ _ c.in_ok-pointer.ensures.points).0.imports ∙ passes.grows.imports ∙ c.requires.side, c.requires.well, c.requires.within);
+      suits = (points.imports ∙ passes.grows.imports ∙ c.requires.side, c.requires.well, c.requires.within, points.opened ∙ passes.grows.opened ∙ c.requires.closed);
     }
 
 pub send-requires-2 : goal.send-requires-2
-send-requires-2 g c = record { operands = sym c.len-count.ensures; suits = tt }
+send-requires-2 g c =
+    let r = result_shape c.args.resolve.now.types c.args.func.now in
+    let count = given_count g.B.Bindgen.meaning c.args.resolve.now.types r c.as_slice-5.result.now c.in_ok-answer.answer c.in_ok-given.given _ _ c.in_ok-given.ensures.reads in
+    record { built = refl; operands = sym c.len-count.ensures; suits = omega (arith, c.len-count.ensures, count, few_given r) }
 
 pub overflow_cast-count : goal.overflow_cast-count
 overflow_cast-count g c =

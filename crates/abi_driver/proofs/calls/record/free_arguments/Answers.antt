@@ -1,4 +1,4 @@
-use Rattle.std.proofs.Common.{◌≡◌, ◌<◌, ◌^◌, List, [], ◌∷◌, sym, ap₂, subst}
+use Rattle.std.proofs.Common.{◌≡◌, ◌<◌, ◌^◌, List, [], ◌∷◌, length, refl, sym, ap, ap₂, subst, arith}
 use mathlib.Core.Logic.{inr}
 use Rattle.wit_layout.specs.Sizes.{elem_size}
 use Rattle.wit_layout.specs.Told.{IsPairOf}
@@ -21,6 +21,12 @@ record_of-align-requires-clause-room g c =
     let tys = c.args.tys.now in
     let filled = c.sizes-sizes.ensures types c.requires.knows in
     inr (small_fits sizes tys (have_places sizes types tys filled c.requires.below) types filled c.requires.small)
+
+pub send-requires : goal.send-requires
+send-requires g c =
+    let types = c.args.resolve.now.types in
+    let size = c.record_of-align.ensures.size types (c.sizes-sizes.ensures types c.requires.knows) in
+    record { built = refl; operands = ap length c.in_ok-operands.ensures; suits = omega (arith, size.1, c.requires.small) }
 
 pub returns : goal.returns
 returns g c =

@@ -15,6 +15,7 @@ use Rattle.wit_layout.specs.Extent.{discriminant_grain}
 use Rattle.wit_layout.specs.Sizes.{field_offsets}
 use Rattle.wit_layout.specs.Told.{is_alias}
 use Rattle.wit_layout.specs.Tree.{tree_at}
+use Rattle.wrapper_meaning.specs.Kinds.{has_list}
 use Rattle.wrapper_meaning.specs.Shape.{Shape, payload_in, payloads_in, shape_of, shapes}
 use Rattle.wrapper_meaning.specs.Shape.Shape.{cases}
 use Rattle.abi_bindgen.specs.Cases.{payloads_of}
@@ -35,7 +36,7 @@ use Rattle.abi_bindgen.proofs.Serving.{alias_served, few_payloads, other_refused
 use Rattle.abi_driver.proofs.LowPlaces.{part_ends, part_low, payload_ends, payload_low as payload_begins, payloads_low}
 use Rattle.abi_driver.proofs.CaseSteps.{are_finished, resumes_both, resumes_same, same_back}
 use Rattle.abi_driver.proofs.NumberWords.{number_load_adds}
-use Rattle.abi_driver.proofs.VariantFrees.{freed_none, freed_variant}
+use Rattle.abi_driver.proofs.VariantFrees.{freed_none, freed_variant, some_case}
 use Rattle.abi_driver.proofs.FreeSteps.{fields_free, frees_as, frees_parts_as, rest_last, rest_next, tuple_free}
 use Rattle.abi_driver.proofs.LeafFrees.{enum_frees, flags_frees, scalar_frees}
 use Rattle.abi_driver.proofs.MemoryCode.{free_alias_code, free_enum_code, free_flags_code, free_record_code, free_scalar_code, free_tuple_code}
@@ -342,7 +343,11 @@ free_variant-run_case-requires g t c =
     let ts = payloads_in (shapes types) tys in
     let frees = c.in_ok-free_cases.ensures.frees in
     let finished = are_finished m (replicate (count ts) 0) frees.bodies _ _ frees.adds in
-    subst (λ ks. HasBlocks m ks c.free_cases.new.bindgen) (same_back (count ts) 0 ∙ ap (λ n. replicate n 0) (count_payloads (shapes types) tys)) finished
+    let many = count_payloads (shapes types) tys in
+    let same = c.as_slice-tys.ensures ∙ c.in_ok-payloads.ensures in
+    let shape = variant_shape types c.requires.down c.args.id.0 c.args.kind.now c.requires.here c.requires.cases ∙ ap (λ (ps : List (Option WitType)). cases (payloads_in (shapes types) ps)) (sym same) in
+    let some = some_case ts (sym (ap has_list shape) ∙ sym c.id_has_list.ensures ∙ c.if-not-id_has_list.false) in
+    record { some = omega (arith, some, many); blocks = subst (λ ks. HasBlocks m ks c.free_cases.new.bindgen) (same_back (count ts) 0 ∙ ap (λ n. replicate n 0) many) finished }
 
 pub free_variant-returns-then-not-id_has_list : goal.free_variant-returns-then-not-id_has_list
 free_variant-returns-then-not-id_has_list g t c =

@@ -10,13 +10,13 @@ use Rattle.abi_bindgen.proofs.SendSteps.{sends_as, sends_three}
 use Rattle.abi_driver.proofs.dealloc.memory.free_text.Goals as goal
 
 pub load_word-requires : goal.load_word-requires
-load_word-requires g c = record { sendable = record { operands = refl; suits = tt }; makes = λ k h. h }
+load_word-requires g c = record { sendable = record { built = refl; operands = refl; suits = tt }; makes = λ k h. h }
 
 pub load_word-requires-2 : goal.load_word-requires-2
-load_word-requires-2 g c = record { sendable = record { operands = refl; suits = tt }; makes = λ k h. h }
+load_word-requires-2 g c = record { sendable = record { built = refl; operands = refl; suits = tt }; makes = λ k h. h }
 
 pub send-requires : goal.send-requires
-send-requires g c = record { operands = ap length c.in_ok-push.ensures.ok ∙ ap (λ (os : List g.row.B-Operand.Denot). length (os ++ c.in_ok-length.length ∷ [])) c.in_ok-operands.ensures; suits = tt }
+send-requires g c = record { built = refl; operands = ap length c.in_ok-push.ensures.ok ∙ ap (λ (os : List g.row.B-Operand.Denot). length (os ++ c.in_ok-length.length ∷ [])) c.in_ok-operands.ensures; suits = tt }
 
 pub returns : goal.returns
 returns g c =

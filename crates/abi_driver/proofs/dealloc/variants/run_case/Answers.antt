@@ -1,11 +1,11 @@
-use Rattle.std.proofs.Common.{List, [], ◌∷◌, length, ap, subst}
+use Rattle.std.proofs.Common.{List, [], ◌∷◌, length, refl, ap, subst}
 use Rattle.std.proofs.lemmas.List.{nil_from_length}
 use Rattle.abi_bindgen.specs.Instructions.{Emits}
 use Rattle.abi_bindgen.specs.declared.instruction.Instruction.TheVariants.{GuestDeallocateVariant}
 use Rattle.abi_driver.proofs.dealloc.variants.run_case.Goals as goal
 
 pub send-requires : goal.send-requires
-send-requires g c = record { operands = ap length c.in_ok-operands.ensures; suits = c.requires }
+send-requires g c = record { built = refl; operands = ap length c.in_ok-operands.ensures; suits = (c.requires.some, c.requires.blocks) }
 
 pub returns : goal.returns
 returns g c =

@@ -28,7 +28,7 @@ send_one-requires g c =
     let same : c.args.at + count - c.args.at ≡ count = omega arith in
     let many = ap length is ∙ length-take-le (c.args.at + count - c.args.at) read room ∙ same ∙ c.flag_words.ensures ∙ ap flag_words c.len.ensures ∙ sym (length_words n) in
     record {
-      ready = record { operands = λ k other. many ∙ ap (λ j. length (words_of_flags j)) (one_count types c.args.id.0 n k are other); suits = (n, are) };
+      ready = record { built = refl; operands = λ k other. many ∙ ap (λ j. length (words_of_flags j)) (one_count types c.args.id.0 n k are other); suits = (n, are) };
       makes = λ k h. h;
     }
 

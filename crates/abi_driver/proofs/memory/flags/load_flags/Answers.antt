@@ -67,7 +67,7 @@ send_one-requires-clause-ready g c =
     let are : AreFlags types c.args.id.0 (length members) = (members, c.requires.here, refl) in
     let done : c.loop-nth.nth ≡ c.flag_words-count.result = omega (arith, c.loop-nth-test.false, c.loop-nth.auto.nth-end) in
     let many = c.loop-nth.invariant.count ∙ done ∙ c.flag_words-count.ensures ∙ ap flag_words c.len-flags.ensures ∙ sym (length_words (length members)) in
-    record { operands = λ n other. many ∙ ap (λ k. length (words_of_flags k)) (one_count types c.args.id.0 (length members) n are other); suits = (length members, are) }
+    record { built = refl; operands = λ n other. many ∙ ap (λ k. length (words_of_flags k)) (one_count types c.args.id.0 (length members) n are other); suits = (length members, are) }
 
 pub returns : goal.returns
 returns g c =

@@ -23,7 +23,7 @@ use Rattle.abi_bindgen.specs.Cases.{payloads_of, result_counts}
 use Rattle.abi_bindgen.specs.Code.{at_payload, beyond, each, load_code, place_in}
 use Rattle.abi_bindgen.specs.HasList.{IsKindOf}
 use Rattle.abi_bindgen.specs.Instructions.{Emits, HasBlocks, IsRecord, IsSendable, Makes, case_lifting, shapes_of, has_cases}
-use Rattle.abi_bindgen.specs.Blocks.{Finishes, IsOpen}
+use Rattle.abi_bindgen.specs.Blocks.{Finishes}
 use Rattle.abi_driver.specs.LoadedCases.{LoadsCase}
 use Rattle.abi_bindgen.specs.Sends.{Sends}
 use Rattle.abi_driver.specs.Loads.{LiftsFromMemory, LoadsParts}
@@ -121,7 +121,7 @@ load_id-send_one-requires-clause-ready g t c =
     let same : c.as_slice-tys.result.now ≡ map (λ (f : Field). f.ty) members = c.as_slice-tys.ensures ∙ c.in_ok-tys-in-Record.ensures ∙ ap (map (λ (f : Field). f.ty)) c.as_slice.ensures in
     let here : IsRecord types c.args.id.0 members = record { entry = d; at = at; kind = is } in
     let count : length c.in_ok-parts-in-Record.parts ≡ length members = c.in_ok-parts-in-Record.ensures.count ∙ ap length same ∙ length-map members (λ (f : Field). f.ty) in
-    record { operands = λ others other. count ∙ ap length (one_record types c.args.id.0 members others here other); suits = (members, here) }
+    record { built = refl; operands = λ others other. count ∙ ap length (one_record types c.args.id.0 members others here other); suits = (members, here) }
 
 pub load_id-load_parts-requires-in-Tuple : goal.load_id-load_parts-requires-in-Tuple
 load_id-load_parts-requires-in-Tuple g t c κs within =
@@ -353,7 +353,7 @@ load_variant-send_one-requires-clause-ready g t c =
     let finished = are_finished m (result_counts tys) loads.bodies _ _ loads.adds in
     let has = subst (λ (ps : List (Option WitType)). HasBlocks m (reverse (result_counts ps)) c.load_cases.new.bindgen) same finished in
     let ready = subst (λ (i : Instruction). IsSendable m c.args.resolve.now i (c.in_ok-tag.tag ∷ []) c.load_cases.new.bindgen) (sym c.case_lifting-lift.ensures)
-    (lifting_sendable m c.args.resolve.now c.requires.down c.args.id c.in_ok-tag.tag _ k (record { entry = d; stands = at; kind = is }) c.requires.cases has) in
+    (lifting_sendable m c.args.resolve.now c.requires.well c.requires.down c.args.id c.in_ok-tag.tag _ k (record { entry = d; stands = at; kind = is }) c.requires.cases has) in
     subst (λ (os : List g.row.B-Operand.Denot). IsSendable m c.args.resolve.now c.case_lifting-lift.result os c.load_cases.new.bindgen) (sym c.in_ok-operands.ensures) ready
 
 pub load_variant-send_one-requires-clause-makes : goal.load_variant-send_one-requires-clause-makes
@@ -452,6 +452,12 @@ load_payload-load_type-requires g t c κs within =
     let knows = c.in_ok-push_block.ensures.lasts.knows types c.requires.knows in
     (omega (arith, low), (within.0, (within.1, (c.requires.well, (c.requires.down, (below, (knows, (c.requires.serves, c.requires.low))))))))
 
+pub load_payload-finish_block-requires : goal.load_payload-finish_block-requires
+load_payload-finish_block-requires g t c =
+    let m = g.B.Bindgen.meaning in
+    let begins = c.in_ok-push_block.ensures in
+    record { «open» = record { slot = begins.slot; suspended = m.code c.args.bindgen.now; outer = m.opened c.args.bindgen.now; opened = c.in_ok-value.ensures.loads.adds.grows.opened ∙ begins.opened } }
+
 pub load_payload-returns : goal.load_payload-returns
 load_payload-returns g t c =
     let m = g.B.Bindgen.meaning in
@@ -459,8 +465,7 @@ load_payload-returns g t c =
     let begins = c.in_ok-push_block.ensures in
     let part = c.in_ok-value.ensures in
     let some = payload_some c.args.resolve.now c.requires.well c.args.ty (type_below_table c.args.id.0 (length types) c.args.ty c.requires.below c.requires.within) in
-    let still : IsOpen m c.load_type.new.bindgen = record { slot = begins.slot; suspended = m.code c.args.bindgen.now; outer = m.opened c.args.bindgen.now; opened = part.loads.adds.grows.opened ∙ begins.opened } in
-    let ends = subst (λ (os : List g.row.B-Operand.Denot). Finishes m os c.load_type.new.bindgen c.finish_block.new.self) c.in_ok-results.ensures (c.in_ok-finish_block.ensures still) in
+    let ends = subst (λ (os : List g.row.B-Operand.Denot). Finishes m os c.load_type.new.bindgen c.finish_block.new.self) c.in_ok-results.ensures c.in_ok-finish_block.ensures in
     record {
       loads = payload_loads m g.met.B.Bindgen.sound (shape_of types c.args.ty) some c.args.address.now c.in_ok-value.value c.args.place _ _ _ _ begins part.loads ends;
       sends = sends_block m types (load_code types c.args.ty c.args.place) (c.in_ok-value.value ∷ []) _ _ _ _ begins part.sends ends;

@@ -10,15 +10,15 @@ use Rattle.abi_bindgen.proofs.SendSteps.{sends_as, sends_three}
 use Rattle.abi_driver.proofs.memory.load.load_text.Goals as goal
 
 pub load_word-requires : goal.load_word-requires
-load_word-requires g c = record { sendable = record { operands = refl; suits = tt }; makes = λ k h. h }
+load_word-requires g c = record { sendable = record { built = refl; operands = refl; suits = tt }; makes = λ k h. h }
 
 pub load_word-requires-2 : goal.load_word-requires-2
-load_word-requires-2 g c = record { sendable = record { operands = refl; suits = tt }; makes = λ k h. h }
+load_word-requires-2 g c = record { sendable = record { built = refl; operands = refl; suits = tt }; makes = λ k h. h }
 
 pub send_one-requires : goal.send_one-requires
 send_one-requires g c =
     let operands = c.in_ok-push.ensures.ok ∙ ap (λ (os : List g.row.B-Operand.Denot). os ++ c.in_ok-length.length ∷ []) c.in_ok-operands.ensures in
-    record { ready = record { operands = ap length operands; suits = tt }; makes = λ k h. h }
+    record { ready = record { built = refl; operands = ap length operands; suits = tt }; makes = λ k h. h }
 
 pub returns : goal.returns
 returns g c =

@@ -110,7 +110,7 @@ store_id-lower_by-requires g t c =
     let d = c.index-types-at.result in
     let at = entry_at types c.as_slice-types.result.now c.args.id.0 d c.as_slice-types.ensures c.requires.within c.index-types-at.is in
     let is = kind_at c.as_slice-types.result.now c.args.id.0 d (kind.Record c.in-Record.members) c.index-types-at.is c.in-Record.is in
-    record { operands = refl; suits = (c.in-Record.members, record { entry = d; at = at; kind = is }) }
+    record { built = refl; operands = refl; suits = (c.in-Record.members, record { entry = d; at = at; kind = is }) }
 
 pub store_id-store_parts-requires : goal.store_id-store_parts-requires
 store_id-store_parts-requires g t c κs within =
@@ -132,7 +132,7 @@ store_id-store_parts-requires g t c κs within =
     (omega arith, (within.0, (within.1, (c.requires.well, (c.requires.down, (c.requires.within, (below, (parts, (enough, (side, (knows, (serves, c.requires.low))))))))))))
 
 pub store_id-lower_by-requires-in-Tuple : goal.store_id-lower_by-requires-in-Tuple
-store_id-lower_by-requires-in-Tuple g t c = record { operands = refl; suits = tt }
+store_id-lower_by-requires-in-Tuple g t c = record { built = refl; operands = refl; suits = tt }
 
 pub store_id-store_parts-requires-in-Tuple : goal.store_id-store_parts-requires-in-Tuple
 store_id-store_parts-requires-in-Tuple g t c κs within =
@@ -373,7 +373,7 @@ store_variant-lower_by-requires g t c =
     let finished = are_finished m (replicate (count ts) 0) stores.bodies _ _ stores.adds in
     let has = subst (λ ks. HasBlocks m ks c.store_cases.new.bindgen) (same_back (count ts) 0 ∙ ap (λ n. replicate n 0) many) finished in
     subst (λ (i : Instruction). IsSendable m c.args.resolve.now i (c.args.value ∷ []) c.store_cases.new.bindgen) (sym c.case_lowering-lower.ensures)
-    (lowering_sendable m c.args.resolve.now c.requires.down c.args.id c.args.value _ k 0 (record { entry = d; stands = at; kind = is }) c.requires.cases has)
+    (lowering_sendable m c.args.resolve.now c.requires.well c.requires.down c.args.id c.args.value _ k 0 (record { entry = d; stands = at; kind = is }) c.requires.cases has)
 
 pub store_variant-returns : goal.store_variant-returns
 store_variant-returns g t c =

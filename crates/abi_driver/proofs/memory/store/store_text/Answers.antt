@@ -9,7 +9,7 @@ use Rattle.abi_bindgen.proofs.SendSteps.{sends_as, sends_three}
 use Rattle.abi_driver.proofs.memory.store.store_text.Goals as goal
 
 pub lower_by-requires : goal.lower_by-requires
-lower_by-requires g c = record { operands = refl; suits = c.requires.side }
+lower_by-requires g c = record { built = refl; operands = refl; suits = c.requires.side }
 
 pub bounds-as_slice-0 : goal.bounds-as_slice-0
 bounds-as_slice-0 g c = omega (arith, ap length c.as_slice.ensures, c.in_ok-words.ensures.results)
@@ -18,10 +18,10 @@ pub bounds-as_slice-1 : goal.bounds-as_slice-1
 bounds-as_slice-1 g c = omega (arith, ap length c.as_slice-2.ensures, c.in_ok-words.ensures.results)
 
 pub store_word-requires : goal.store_word-requires
-store_word-requires g c = record { sendable = record { operands = refl; suits = tt }; silent = λ k h. h }
+store_word-requires g c = record { sendable = record { built = refl; operands = refl; suits = tt }; silent = λ k h. h }
 
 pub store_word-requires-2 : goal.store_word-requires-2
-store_word-requires-2 g c = record { sendable = record { operands = refl; suits = tt }; silent = λ k h. h }
+store_word-requires-2 g c = record { sendable = record { built = refl; operands = refl; suits = tt }; silent = λ k h. h }
 
 pub returns : goal.returns
 returns g c =

@@ -1,5 +1,5 @@
 use Rattle.std.specs.Int.{w32}
-use Rattle.std.proofs.Common.{List, [], ◌∷◌, length, ap, subst}
+use Rattle.std.proofs.Common.{List, [], ◌∷◌, length, refl, ap, subst}
 use Rattle.std.proofs.lemmas.Int.{to_z_pos}
 use Rattle.wit_layout.specs.Extent.{discriminant_grain}
 use Rattle.abi_bindgen.specs.Instructions.{Emits}
@@ -9,7 +9,7 @@ use Rattle.abi_driver.proofs.Sendable.{makeable_number_store}
 use Rattle.abi_driver.proofs.memory.variants.store_tag.Goals as goal
 
 pub send_one-requires : goal.send_one-requires
-send_one-requires g c = record { ready = record { operands = ap length c.new.ensures; suits = tt }; makes = λ k h. h }
+send_one-requires g c = record { ready = record { built = refl; operands = ap length c.new.ensures; suits = tt }; makes = λ k h. h }
 
 pub store_word-requires : goal.store_word-requires
 store_word-requires g c =

@@ -1,5 +1,8 @@
-use Rattle.std.proofs.Common.{arith}
+use Rattle.std.proofs.Common.{◌≤◌, List, Some, length, sym, subst, ◌∙◌, arith}
+use Rattle.std.specs.Prelude.{IfSome}
 use Rattle.wit_model.proofs.WellFormedLemmas.{types_go_down}
+use Rattle.func_gen.specs.declared.operand.ExprOperand.{ExprOperand}
+use Rattle.wrapper_closing.proofs.StepsDeclare.{none_open}
 use Rattle.command_tests.proofs.bodies.memory.freed.Goals as goal
 
 pub deallocate_lists_in_types-requires-clause-down : goal.deallocate_lists_in_types-requires-clause-down
@@ -16,3 +19,10 @@ deallocate_lists_in_types-requires-clause-words c = λ e. ((tt, tt), c.in_ok-wor
 
 pub deallocate_lists_in_types-requires-clause-few : goal.deallocate_lists_in_types-requires-clause-few
 deallocate_lists_in_types-requires-clause-few c = λ e. omega (arith, c.in_ok-words.ensures)
+
+pub finish-body-requires-clause-closed : goal.finish-body-requires-clause-closed
+finish-body-requires-clause-closed c =
+    none_open c.give_nothing.new.bindgen (c.in_ok-give_nothing.ensures.closed ∙ c.in_ok-deallocate_lists_in_types.ensures.frees.adds.grows.opened ∙ c.in_ok-bindgen.ensures.begins.closed)
+
+pub finish-body-requires-clause-few : goal.finish-body-requires-clause-few
+finish-body-requires-clause-few c = subst (λ given. IfSome given (λ (os : List ExprOperand). length os ≤ 1)) (sym c.in_ok-give_nothing.ensures.nothing) (omega arith)

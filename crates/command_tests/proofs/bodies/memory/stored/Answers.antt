@@ -1,5 +1,16 @@
+use Rattle.std.proofs.Common.{◌≤◌, List, Some, length, sym, subst, ◌∙◌, arith}
+use Rattle.std.specs.Prelude.{IfSome}
 use Rattle.wit_model.proofs.WellFormedLemmas.{types_go_down}
+use Rattle.func_gen.specs.declared.operand.ExprOperand.{ExprOperand}
+use Rattle.wrapper_closing.proofs.StepsDeclare.{none_open}
 use Rattle.command_tests.proofs.bodies.memory.stored.Goals as goal
 
 pub lower_to_memory-requires-clause-down : goal.lower_to_memory-requires-clause-down
 lower_to_memory-requires-clause-down c = types_go_down c.args.resolve.now c.requires.unbroken
+
+pub finish-body-requires-clause-closed : goal.finish-body-requires-clause-closed
+finish-body-requires-clause-closed c =
+    none_open c.give_nothing.new.bindgen (c.in_ok-give_nothing.ensures.closed ∙ c.in_ok-lower_to_memory.ensures.stores.adds.grows.opened ∙ c.in_ok-bindgen.ensures.begins.closed)
+
+pub finish-body-requires-clause-few : goal.finish-body-requires-clause-few
+finish-body-requires-clause-few c = subst (λ given. IfSome given (λ (os : List ExprOperand). length os ≤ 1)) (sym c.in_ok-give_nothing.ensures.nothing) (omega arith)

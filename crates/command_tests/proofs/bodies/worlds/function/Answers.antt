@@ -21,6 +21,7 @@ pub returns-clause-serves : goal.returns-clause-serves
 unfolding returns-clause-types
 returns-clause-serves c = λ types served.
     record {
+      plain = refl;
       params = subst (λ tys. ServesAll (payloads_in (shapes types) (map (λ ty. Some ty) tys))) (sym (returns-clause-types c)) (served, tt);
       result = tt;
     }

@@ -8,7 +8,7 @@ use Rattle.func_gen.proofs.emit.freed_cases.freed_arms.Given as goal
 abbrev pub invariant-loop-k : goal.invariant-loop-k
 invariant-loop-k l = record {
   arms : l.arms ++ numbered_arms l.k (map freed_body (reverse l.left.items)) ≡ numbered_arms 0 (map freed_body (reverse l.initial.left.items));
-  none : AllByRecursion (λ (b : FinishedBlock). b.results ≡ []) (reverse l.left.items) → AllByRecursion (λ (b : FinishedBlock). b.results ≡ []) (reverse l.initial.left.items);
+  none : AllByRecursion (λ (b : FinishedBlock). b.results ≡ []) (reverse l.left.items);
   inward : list_all is_inward (map freed_body (reverse l.left.items)) ≡ list_all is_inward (map freed_body (reverse l.initial.left.items));
   many : length l.left.items + l.k ≡ l.count;
 }

@@ -1,21 +1,30 @@
-use Rattle.std.proofs.Common.{◌≡◌, ◌∷◌, ◌++◌, [], length, reverse, ap, ap₂, ◌∙◌, arith}
+use Rattle.std.proofs.Common.{◌≡◌, true, ◌∷◌, ◌++◌, [], length, reverse, ap, ap₂, ◌∙◌, subst, arith}
+use Rattle.std.specs.List.{list_all}
 use Rattle.std.proofs.lemmas.List.{length-reverse, reverse-append}
+use Rattle.func_gen.specs.LiftedCases.{is_liftable}
+use Rattle.func_gen.proofs.BlocksThere.{split_few}
 use Rattle.func_gen.proofs.emit.lifted_variants.member_arms.Goals as goal
+
+pub lifted_arms-requires-clause-few : goal.lifted_arms-requires-clause-few
+lifted_arms-requires-clause-few c = (split_few c.parted-block.result.0 c.parted-block.result.1 (subst (λ blocks. list_all is_liftable (reverse blocks) ≡ true) c.parted-block.ensures c.requires.few)).1
+
+pub last_arm-requires : goal.last_arm-requires
+last_arm-requires c = record { few = (split_few c.parted-block.result.0 c.parted-block.result.1 (subst (λ blocks. list_all is_liftable (reverse blocks) ≡ true) c.parted-block.ensures c.requires.few)).0 }
 
 pub returns : goal.returns
 returns c =
-    let cases = c.args.cases.now in
-    let block = c.in_ok-block.block in
-    let others = c.in_ok-block.others in
-    let is : c.args.blocks ≡ block ∷ others = c.in_ok-block.ensures in
+    let block = c.parted-block.result.0 in
+    let others = c.parted-block.result.1 in
+    let is : c.args.blocks ≡ block ∷ others = c.parted-block.ensures in
     let long = ap length is in
+    let few = split_few block others (subst (λ blocks. list_all is_liftable (reverse blocks) ≡ true) is c.requires.few) in
     record {
       first = reverse others;
       last = block;
       split = ap reverse is ∙ reverse-append (block ∷ []) others;
       many = length-reverse others ∙ omega (arith, c.requires.many, long);
-      few = c.in_ok-arms.ensures.few;
-      few_last = c.in_ok-other.ensures.few;
+      few = few.1;
+      few_last = few.0;
       unnamed = c.in_ok-other.ensures.unnamed;
       inward = c.in_ok-arms.ensures.inward;
       inward_last = c.in_ok-other.ensures.inward;

@@ -4,6 +4,7 @@ use Rattle.rust_tree.specs.declared.stmt.Stmt.TheVariants as stmt
 use Rattle.func_gen.specs.Added.{Appends}
 use Rattle.func_gen.specs.CallForms.{import_name, import_of, ret_name}
 use Rattle.func_gen.specs.Scope.{Takes}
+use Rattle.func_gen.specs.BindgenSeen.{seen_bindgen}
 use Rattle.func_gen.proofs.CallRows.{declared_as}
 use Rattle.func_gen.proofs.Declared.{still_fresh}
 use Rattle.func_gen.proofs.Rows.{appends_both, no_code}
@@ -11,7 +12,7 @@ use Rattle.func_gen.proofs.function_bindgen.FunctionBindgen.add_call.Goals as go
 
 pub returns : goal.returns
 returns c =
-    let old = c.args.self.now in
+    let old = seen_bindgen c.self.inside in
     let mid = record old { scope = c.declare.new.self } in
     let imported = c.push_import.new.self in
     let new = c.add_effect.new.self in
@@ -24,7 +25,7 @@ returns c =
     let answers = c.in_ok-given.ensures ∙ c.in_ok-answer.ensures in
     let first = appends_both old mid imported [] (declares ∷ []) [] [] (no_code old mid refl) c.in_ok-push_import.ensures.adds in
     let both = appends_both old imported new (declares ∷ []) (stmt.Let c.in_ok-answer.answer (expr.Call path c.args.arguments) ∷ []) [] [] first c.in_ok-add_effect.ensures.adds in
-    record {
+    rw (← c.self.view_is) (record {
       import = name;
       stmts = subst (λ x. Appends old new (declares ∷ x ∷ []) []) (ap₂ (λ n p. stmt.Let n (expr.Call p c.args.arguments)) (sym c.in_ok-given.ensures) c.in_ok-path.ensures) both;
       number = t;
@@ -32,4 +33,4 @@ returns c =
       answers = answers;
       takes = subst (Takes old.scope (λ k. import_name k ∷ ret_name k ∷ []) t) (sym scope) (record { locals = _; named = λ k. refl; declares = c.in_ok-t.ensures });
       names = still_fresh old mid new (name ∷ given ∷ []) scope (declared_as old mid _ t (name ∷ given ∷ []) c.in_ok-t.ensures (ap₂ (λ n m. n ∷ m ∷ []) c.in_ok-name.ensures answers));
-    }
+    })

@@ -1,4 +1,5 @@
 use Rattle.std.proofs.Common.{length, ap, ◌∙◌, sym, ◌≡◌, ℕ, subst}
+use Rattle.func_gen.specs.BindgenSeen.{seen_bindgen}
 use Rattle.func_gen.specs.FlushForms.{flush_prefix}
 use Rattle.func_gen.specs.Scope.{names_at, Declares}
 use Rattle.func_gen.specs.PartForms.{names_from}
@@ -11,20 +12,20 @@ unfolding flush_prefix
 push_lets-requires c =
     let d = c.in_ok-names.ensures in
     let named = c.as_slice-2.ensures ∙ d.are ∙ ap (λ ns. names_at ns d.number) c.as_slice.ensures ∙ c.in_ok-parts.ensures d.number in
-    record { many = ap length named ∙ names_many flush_prefix d.number 0 c.args.count ∙ sym c.requires.many }
+    record { operands = c.requires.operands; many = ap length named ∙ names_many flush_prefix d.number 0 c.args.count ∙ sym c.requires.many }
 
 pub returns-clause-takes : goal.returns-clause-takes
 unfolding flush_prefix
 returns-clause-takes c =
     let d = c.in_ok-names.ensures in
     let named : (k : ℕ) → names_at c.in_ok-parts.parts k ≡ names_from flush_prefix k 0 c.args.count = c.in_ok-parts.ensures in
-    record {
+    rw (← c.self.view_is) (record {
       number = d.number;
       are = d.are ∙ ap (λ ns. names_at ns d.number) c.as_slice.ensures ∙ named d.number;
-      takes = record { locals = c.in_ok-parts.parts; named = named; declares = subst (λ ns. Declares c.args.self.now.scope ns d.number c.declare_all.new.self) c.as_slice.ensures d.declares };
-    }
+      takes = record { locals = c.in_ok-parts.parts; named = named; declares = subst (λ ns. Declares (seen_bindgen c.self.inside).scope ns d.number c.declare_all.new.self) c.as_slice.ensures d.declares };
+    })
 
 pub returns-clause-fresh : goal.returns-clause-fresh
 returns-clause-fresh c =
     let d = c.in_ok-names.ensures in
-    declared_as c.args.self.now _ _ d.number c.in_ok-names.names d.declares d.are
+    rw (← c.self.view_is) (declared_as (seen_bindgen c.self.inside) _ _ d.number c.in_ok-names.names d.declares d.are)

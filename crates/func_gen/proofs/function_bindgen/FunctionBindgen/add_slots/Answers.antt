@@ -1,28 +1,33 @@
 use Rattle.std.proofs.Common.{refl, sym, ap, ◌∙◌, append-nil, subst}
+use Rattle.func_gen.specs.BindgenSeen.{seen_bindgen}
 use Rattle.func_gen.specs.Scope.{names_at, Declares}
 use Rattle.func_gen.proofs.CallRows.{declared_as}
 use Rattle.func_gen.proofs.function_bindgen.FunctionBindgen.add_slots.Goals as goal
 
 pub returns-clause-adds : goal.returns-clause-adds
-returns-clause-adds c = record {
-  call = refl;
-  stmts = c.in_ok-push_slots.ensures;
-  runtime = sym (append-nil c.args.self.now.runtime);
-  import = refl;
-  home = refl;
-  area = refl;
-  params = refl;
-  sites = refl;
-  sizes = refl;
-  asked = refl;
-  returned = refl;
-  opened = refl;
-  finished = refl;
-}
+returns-clause-adds c =
+    let old = seen_bindgen c.self.inside in
+    rw (← c.self.view_is) (record {
+      call = refl;
+      stmts = c.in_ok-push_slots.ensures;
+      runtime = sym (append-nil old.runtime);
+      import = refl;
+      home = refl;
+      area = refl;
+      params = refl;
+      sites = refl;
+      sizes = refl;
+      asked = refl;
+      returned = refl;
+      opened = refl;
+      finished = refl;
+    })
 
 pub returns-clause-fresh : goal.returns-clause-fresh
-returns-clause-fresh c = declared_as c.args.self.now _ _ c.in_ok-t.t _ c.in_ok-t.ensures (sym (ap (λ ns. names_at ns c.in_ok-t.t) c.as_slice.ensures ∙ c.in_ok-names.ensures c.in_ok-t.t))
+returns-clause-fresh c =
+    rw (← c.self.view_is) (declared_as (seen_bindgen c.self.inside) _ _ c.in_ok-t.t _ c.in_ok-t.ensures (sym (ap (λ ns. names_at ns c.in_ok-t.t) c.as_slice.ensures ∙ c.in_ok-names.ensures c.in_ok-t.t)))
 
 pub returns-clause-takes : goal.returns-clause-takes
 returns-clause-takes c =
-    record { locals = c.in_ok-names.names; named = c.in_ok-names.ensures; declares = subst (λ ns. Declares c.args.self.now.scope ns c.in_ok-t.t c.declare.new.self) c.as_slice.ensures c.in_ok-t.ensures }
+    let old = seen_bindgen c.self.inside in
+    rw (← c.self.view_is) (record { locals = c.in_ok-names.names; named = c.in_ok-names.ensures; declares = subst (λ ns. Declares old.scope ns c.in_ok-t.t c.declare.new.self) c.as_slice.ensures c.in_ok-t.ensures })

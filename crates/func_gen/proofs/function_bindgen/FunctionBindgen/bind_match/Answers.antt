@@ -1,5 +1,6 @@
 use Rattle.std.proofs.Common.{[], ◌∷◌, ◌++◌, ◌≡◌, ℕ, refl, sym, ap, ap₂, ◌∙◌, append-nil, subst}
 use Rattle.rust_tree.specs.declared.stmt.Stmt.TheVariants as stmt
+use Rattle.func_gen.specs.BindgenSeen.{seen_bindgen}
 use Rattle.func_gen.specs.MatchForms.{match_names, result_names}
 use Rattle.func_gen.specs.Scope.{Declares, names_at}
 use Rattle.func_gen.proofs.CallRows.{declared_as}
@@ -7,11 +8,11 @@ use Rattle.func_gen.proofs.function_bindgen.FunctionBindgen.bind_match.Goals as 
 
 pub returns : goal.returns
 returns c =
-    let old = c.args.self.now in
+    let old = seen_bindgen c.self.inside in
     let d = c.in_ok-names.ensures in
     let named : (k : ℕ) → names_at c.in_ok-locals.locals k ≡ result_names c.args.count k = c.in_ok-locals.ensures in
     let bound = c.in_ok-bound.ensures ∙ ap match_names c.as_slice-2.ensures in
-    record {
+    rw (← c.self.view_is) (record {
       adds = record {
         call = refl;
         stmts = c.in_ok-push.ensures.ok ∙ ap₂ (λ names e. old.code.stmts ++ stmt.Match names e c.args.arms ∷ []) bound c.in_ok-e.ensures;
@@ -33,4 +34,4 @@ returns c =
         are = d.are ∙ ap (λ ns. names_at ns d.number) c.as_slice.ensures ∙ named d.number;
         takes = record { locals = c.in_ok-locals.locals; named = named; declares = subst (λ ns. Declares old.scope ns d.number c.declare_all.new.self) c.as_slice.ensures d.declares };
       };
-    }
+    })

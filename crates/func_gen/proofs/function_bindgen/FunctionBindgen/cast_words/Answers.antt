@@ -5,6 +5,7 @@ use Rattle.func_gen.specs.CastForms.{casts_from, stmts_from}
 use Rattle.func_gen.specs.Forms.{operand_of}
 use Rattle.func_gen.specs.PartForms.{are_operands, exprs_of}
 use Rattle.func_gen.proofs.CastRows.{casts_row}
+use Rattle.func_gen.proofs.CastSteps.{steps_all}
 use Rattle.func_gen.proofs.Rows.{emits_as}
 use Rattle.func_gen.proofs.function_bindgen.FunctionBindgen.cast_words.Goals as goal
 
@@ -18,4 +19,14 @@ returns c =
     let adds = subst (λ es. Appends c.args.self.now c.add_slots.new.self (stmts_from 0 cs es t) []) same c.in_ok-t.ensures.adds in
     emits_as types (instruction.Bitcasts c.args.casts) _ _ _ _ _ _ refl
     (c.in_ok-push_casts.ensures ∙ ap (λ rs. rs ++ map operand_of (casts_from 0 cs c.as_slice-3.result.now t)) c.requires.empty ∙ ap (λ es. map operand_of (casts_from 0 cs es t)) again)
-    (casts_row types c.args.self.now _ t c.args.casts c.args.operands.now c.requires.many (search rules) (sym (ap are_operands c.as_slice.ensures) ∙ c.in_ok-es.ensures.operands) adds c.in_ok-t.ensures.fresh c.in_ok-t.ensures.takes)
+    (casts_row types c.args.self.now _ t c.args.casts c.args.operands.now c.requires.sendable.operands (search rules) (sym (ap are_operands c.as_slice.ensures) ∙ c.in_ok-es.ensures.operands) adds c.in_ok-t.ensures.fresh c.in_ok-t.ensures.takes)
+
+pub add_slots-requires-clause-steps : goal.add_slots-requires-clause-steps
+add_slots-requires-clause-steps c =
+    let (froms, tos, are) = c.requires.sendable.suits in
+    steps_all froms tos c.args.casts.now are
+
+pub push_casts-requires-clause-steps : goal.push_casts-requires-clause-steps
+push_casts-requires-clause-steps c =
+    let (froms, tos, are) = c.requires.sendable.suits in
+    steps_all froms tos c.args.casts.now are

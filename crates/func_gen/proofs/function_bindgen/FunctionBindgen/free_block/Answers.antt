@@ -1,4 +1,6 @@
-use Rattle.std.proofs.Common.{[], ◌∷◌, ◌++◌, ◌≡◌, ◌∙◌, ap, subst, sym, true}
+use Rattle.std.proofs.Common.{[], ◌∷◌, ◌++◌, ◌^◌, ◌≡◌, ◌∙◌, ap, subst, sym, true}
+use Rattle.std.proofs.lemmas.Bool.{lt-ltb}
+use Rattle.wit_model.specs.Size.{bytes_at}
 use Rattle.rust_tree.specs.declared.expr.Expr.TheVariants as expr
 use Rattle.rust_tree.specs.declared.runtime_item.RuntimeItem.TheVariants.{CabiDealloc}
 use Rattle.rust_tree.specs.declared.stmt.Stmt.TheVariants as stmt
@@ -16,7 +18,7 @@ returns c =
     let size = c.args.size in
     let e = c.in_ok-address.address.now in
     let same = c.align_size.ensures.same in
-    let sized : is_length size ≡ true = sym c.is_length.ensures ∙ c.if-not-is_length.false in
+    let sized : is_length size ≡ true = lt-ltb (bytes_at size 4) (2 ^ 32) c.requires.sendable.suits in
     let aligned : is_length (align_size c.args.align) ≡ true = sym (ap is_length same) ∙ c.align_size.ensures.length in
     let adds = subst (λ align. Appends c.args.self.now c.add_free.new.self (stmt.Expr (bytes_freed e (expr.Size size) align) ∷ []) (CabiDealloc ∷ [])) same
     (subst (λ bs. Appends c.args.self.now c.add_free.new.self (stmt.Expr (expr.Call (runtime_path CabiDealloc) (bs ++ expr.Size c.align_size.result ∷ [])) ∷ []) (CabiDealloc ∷ [])) c.in_ok-block.ensures c.in_ok-add_free.ensures.adds) in

@@ -1,4 +1,4 @@
-use Rattle.std.proofs.Common.{[], ◌∷◌, ◌++◌, reverse, sym, ap, ap₂, ◌∙◌, subst}
+use Rattle.std.proofs.Common.{[], ◌∷◌, ◌++◌, length, reverse, sym, ap, ap₂, ◌∙◌, subst}
 use Rattle.rust_tree.specs.declared.pattern.ArmPattern.TheVariants as arm
 use Rattle.rust_tree.specs.declared.runtime_item.RuntimeItem.TheVariants.{InvalidEnumDiscriminant}
 use Rattle.rust_tree.specs.declared.stmt.MatchNames.TheVariants as names_of
@@ -7,9 +7,13 @@ use Rattle.wrapper_run.specs.Inward.{is_inward}
 use Rattle.func_gen.specs.Added.{Appends}
 use Rattle.func_gen.specs.LiftedCases.{lifted_bodies}
 use Rattle.func_gen.specs.MatchForms.{arm_of}
+use Rattle.func_gen.proofs.BlocksThere.{used_few}
 use Rattle.func_gen.proofs.Forming.{one_since}
 use Rattle.func_gen.proofs.Rows.{appends_both, fresh_since}
 use Rattle.func_gen.proofs.function_bindgen.FunctionBindgen.lift_cases.Goals as goal
+
+pub lifted_arms-requires-clause-few : goal.lifted_arms-requires-clause-few
+lifted_arms-requires-clause-few c = used_few c.in_ok-blocks.blocks (length c.args.cases.now) c.args.self.now c.use_blocks.new.self c.in_ok-blocks.ensures c.requires.few
 
 pub returns : goal.returns
 returns c =
@@ -23,7 +27,7 @@ returns c =
       used = c.in_ok-blocks.blocks;
       mid = mid;
       uses = c.in_ok-blocks.ensures;
-      few = c.in_ok-arms.ensures.few;
+      few = used_few c.in_ok-blocks.blocks (length c.args.cases.now) c.args.self.now mid c.in_ok-blocks.ensures c.requires.few;
       inward = c.in_ok-arms.ensures.inward;
       inward_last = ap is_inward (sym c.in_ok-body.ensures.body) ∙ c.in_ok-body.ensures.inward;
       adds = appends_both mid asked c.add_match.new.self [] _ (InvalidEnumDiscriminant ∷ []) [] c.in_ok-ask.ensures.asks added;

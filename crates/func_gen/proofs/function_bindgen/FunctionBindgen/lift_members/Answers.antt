@@ -9,8 +9,12 @@ use Rattle.func_gen.specs.Added.{Appends}
 use Rattle.func_gen.specs.LiftedCases.{LiftsVariantBy}
 use Rattle.func_gen.specs.Scope.{TakesAll, with_number}
 use Rattle.func_gen.specs.Uses.{Uses}
+use Rattle.func_gen.proofs.BlocksThere.{used_few}
 use Rattle.func_gen.proofs.Rows.{appends_both, no_code}
 use Rattle.func_gen.proofs.function_bindgen.FunctionBindgen.lift_members.Goals as goal
+
+pub member_arms-requires-clause-few : goal.member_arms-requires-clause-few
+member_arms-requires-clause-few c = used_few c.in_ok-blocks.blocks (length c.args.cases.now + 1) c.args.self.now c.use_blocks.new.self c.in_ok-blocks.ensures c.requires.few
 
 pub returns : goal.returns
 returns c =

@@ -1,10 +1,23 @@
-use Rattle.std.proofs.Common.{refl, subst}
+use Rattle.std.proofs.Common.{◌≡◌, ◌∙◌, ap, arith, length, refl, subst, sym}
 use Rattle.rust_tree.specs.declared.expr.Expr.TheVariants as expr
 use Rattle.abi_bindgen.specs.declared.instruction.Instruction.TheVariants as instruction
+use Rattle.abi_bindgen.specs.Cases.{payloads_at}
 use Rattle.func_gen.specs.LiftedCases.{LiftsBy}
+use Rattle.func_gen.proofs.BlocksThere.{cases_few, cases_there}
+use Rattle.func_gen.proofs.CaseFits.{result_count}
 use Rattle.func_gen.proofs.CaseLifted.{result_made}
 use Rattle.func_gen.proofs.Rows.{emits_as, pushed}
 use Rattle.func_gen.proofs.function_bindgen.FunctionBindgen.lift_result.Goals as goal
+
+pub lift_cases-requires : goal.lift_cases-requires
+lift_cases-requires c =
+    let payloads = payloads_at c.args.resolve.now.types c.args.id.0 in
+    let cases = c.as_slice.result.now in
+    let forms = c.in_ok-forms.ensures in
+    let two = ap length (c.as_slice.ensures ∙ forms.are) in
+    let many : length payloads ≡ length cases = result_count c.args.resolve.now.types c.args.id.0 c.in_ok-forms.forms forms ∙ sym (ap length c.as_slice.ensures) in
+    let has = c.requires.sendable.suits.3 in
+    record { operand = c.in_ok-e.ensures.operand; low = omega (arith, two); there = cases_there c.args.self.now payloads (length cases) many has; few = cases_few c.args.self.now payloads (length cases) many has }
 
 pub returns : goal.returns
 returns c =

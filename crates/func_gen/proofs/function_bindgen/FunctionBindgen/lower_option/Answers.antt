@@ -1,10 +1,15 @@
-use Rattle.std.proofs.Common.{◌++◌, ◌∙◌, ap, arith, subst}
+use Rattle.std.proofs.Common.{◌++◌, ◌∙◌, ap, arith, length, replicate, subst, sym}
+use Rattle.abi_bindgen.specs.Instructions.{HasBlocks}
 use Rattle.abi_bindgen.specs.declared.instruction.Instruction.TheVariants as instruction
 use Rattle.func_gen.specs.MatchForms.{LowersBy}
+use Rattle.func_gen.specs.Meaning.{func_meaning}
 use Rattle.func_gen.specs.PartForms.{locals_of}
 use Rattle.func_gen.proofs.CaseLowered.{option_lowered}
 use Rattle.func_gen.proofs.Rows.{emits_as}
 use Rattle.func_gen.proofs.function_bindgen.FunctionBindgen.lower_option.Goals as goal
+
+pub lower_cases-requires : goal.lower_cases-requires
+lower_cases-requires c = record { operand = c.in_ok-e.ensures.operand; blocks = subst (λ k. HasBlocks func_meaning (replicate k c.args.count) c.args.self.now) (sym (ap length (c.as_slice.ensures ∙ c.in_ok-forms.ensures.are))) c.requires.sendable.suits.2 }
 
 pub returns : goal.returns
 returns c =

@@ -1,26 +1,23 @@
-use Rattle.std.proofs.Common.{◌≡◌, false, List, [], ◌∷◌, ◌++◌, Option, None, Some, refl, sym, ap, ap₂, ◌∙◌}
-use Rattle.std.specs.Prelude.{is_some}
+use Rattle.std.proofs.Common.{List, [], ◌∷◌, ◌++◌, refl, sym, ap, ap₂, ◌∙◌}
 use Rattle.rust_tree.specs.declared.stmt.Stmt.{Stmt}
 use Rattle.func_gen.specs.declared.function_bindgen.Code.{Code}
 use Rattle.func_gen.specs.declared.operand.ExprOperand.{ExprOperand}
+use Rattle.func_gen.specs.BindgenSeen.{seen_bindgen}
 use Rattle.func_gen.specs.Formed.{block_of}
 use Rattle.func_gen.specs.PartForms.{are_operands}
+use Rattle.func_gen.proofs.WholeLemmas.{around_uncalled, innermost_uncalled}
 use Rattle.func_gen.proofs.function_bindgen.FunctionBindgen.resume.Goals as goal
-
-none_of : {A : Type 0} (o : Option A) → is_some o ≡ false → o ≡ None
-none_of None h = refl
-none_of (Some x) h = absurd (cc)
 
 pub returns : goal.returns
 returns c =
-    let old = c.args.self.now in
-    let block = c.in-Some.open in
-    record {
+    let old = seen_bindgen c.self.inside in
+    let block = c.take_last-open.result in
+    rw (← c.self.view_is) (record {
       closing = record {
         block = block;
-        opened = c.in-Some.ensures;
+        opened = c.take_last-open.ensures;
         code = c.replace-before.ensures.after;
-        uncalled = none_of old.code.call (sym c.is_some.ensures ∙ c.if-is_some.false);
+        uncalled = innermost_uncalled old.opened _ block old.code.call c.take_last-open.ensures c.self.invariant.uncalled;
         finished = c.in_ok-push.ensures.ok ∙ ap₂ (λ (stmts : List Stmt) (os : List ExprOperand). old.finished ++ block_of block stmts os ∷ []) (ap (λ (code : Code). code.stmts) c.replace-before.ensures.value) c.replace-results.ensures.value;
         scope = refl;
         runtime = refl;
@@ -28,5 +25,19 @@ returns c =
       still = record { import = refl; home = refl; area = refl; params = refl; sites = refl; sizes = refl };
       asked = refl;
       returned = refl;
-      operands = ap are_operands (sym c.as_slice.ensures) ∙ sym c.are_operands.ensures ∙ c.if-not-are_operands.false;
+      operands = ap are_operands (sym c.as_slice.ensures) ∙ c.are_operands.ensures;
+    })
+
+pub invariant_of-self : goal.invariant_of-self
+invariant_of-self c =
+    record {
+      uncalled = rw c.replace-before.ensures.after (around_uncalled c.self.inside.opened _ c.take_last-open.result c.self.inside.code.call c.take_last-open.ensures c.self.invariant.uncalled);
+      small = c.self.invariant.small;
+    }
+
+pub invariant_of-self-2 : goal.invariant_of-self-2
+invariant_of-self-2 c =
+    record {
+      uncalled = rw c.replace-before.ensures.after (around_uncalled c.self.inside.opened _ c.take_last-open.result c.self.inside.code.call c.take_last-open.ensures c.self.invariant.uncalled);
+      small = c.self.invariant.small;
     }

@@ -2,6 +2,10 @@ use Rattle.std.proofs.Common.{List, [], ◌∷◌, ◌++◌, None, refl, ap, ap�
 use Rattle.rust_tree.specs.declared.stmt.Stmt.{Stmt}
 use Rattle.wit_model.specs.Bytes.{Bytes}
 use Rattle.func_gen.specs.declared.function_bindgen.Code.{Code}
+use Rattle.func_gen.specs.declared.function_bindgen.OpenBlock.{OpenBlock}
+use Rattle.func_gen.specs.BindgenSeen.{seen_bindgen}
+use Rattle.func_gen.specs.Whole.{AreUncalledIn}
+use Rattle.func_gen.proofs.WholeLemmas.{emptied_uncalled, opened_uncalled}
 use Rattle.func_gen.proofs.function_bindgen.FunctionBindgen.suspend.Goals as goal
 
 abbrev code_of : List Stmt → Code
@@ -9,9 +13,9 @@ code_of stmts = record { call = None; stmts = stmts }
 
 pub returns : goal.returns
 returns c =
-    let old = c.args.self.now in
+    let old = seen_bindgen c.self.inside in
     let k = c.in_ok-number.number in
-    record {
+    rw (← c.self.view_is) (record {
       block = record {
         number = k;
         takes = c.in_ok-number.ensures;
@@ -24,4 +28,20 @@ returns c =
       still = record { import = refl; home = refl; area = refl; params = refl; sites = refl; sizes = refl };
       asked = refl;
       returned = refl;
+    })
+
+pub invariant_of-self-in_err-push : goal.invariant_of-self-in_err-push
+invariant_of-self-in_err-push c =
+    record {
+      uncalled = rw (c.in_err-push.ensures.err, c.replace-code.ensures.after) (emptied_uncalled c.self.inside.opened c.self.inside.code.call c.self.invariant.uncalled);
+      small = c.self.invariant.small;
+    }
+
+pub invariant_of-self-2 : goal.invariant_of-self-2
+invariant_of-self-2 c =
+    let block : OpenBlock = record { number = c.in_ok-number.number; names = c.in_ok-names.names; code = c.replace-code.result } in
+    let around : AreUncalledIn c.self.inside.opened c.replace-code.result.call = rw c.replace-code.ensures.value c.self.invariant.uncalled in
+    record {
+      uncalled = rw (c.in_ok-push.ensures.ok, c.replace-code.ensures.after) (opened_uncalled c.self.inside.opened block around);
+      small = c.self.invariant.small;
     }

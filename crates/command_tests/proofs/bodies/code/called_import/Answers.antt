@@ -1,0 +1,14 @@
+use Rattle.wrapper_closing.proofs.CallsKept.{import_closed}
+use Rattle.wrapper_closing.proofs.Returned.{import_few}
+use Rattle.wrapper_closing.proofs.StepsDeclare.{none_open}
+use Rattle.command_tests.proofs.bodies.code.called_import.Goals as goal
+
+pub call-requires-clause-fresh : goal.call-requires-clause-fresh
+call-requires-clause-fresh c = let begins = c.in_ok-bindgen.ensures.begins in record { closed = begins.closed; unasked = begins.unasked; uncalled = begins.uncalled }
+
+pub finish-body-requires-clause-closed : goal.finish-body-requires-clause-closed
+finish-body-requires-clause-closed c =
+    import_closed c.args.resolve.now.types c.args.func c.in_ok-bindgen.bindgen c.call.new.bindgen c.in_ok-call.ensures.sends (none_open c.in_ok-bindgen.bindgen c.in_ok-bindgen.ensures.begins.closed)
+
+pub finish-body-requires-clause-few : goal.finish-body-requires-clause-few
+finish-body-requires-clause-few c = import_few c.args.resolve.now.types c.args.func c.in_ok-bindgen.bindgen c.call.new.bindgen c.in_ok-call.ensures.sends

@@ -1,0 +1,62 @@
+use Rattle.std.proofs.Common.{◌≡◌, ◌+◌, ℕ, suc, [], ◌∷◌, ◌++◌, length, replicate, reverse, ap, ap₂, ◌∙◌, subst, sym, arith}
+use Rattle.std.specs.List.{AllByRecursion}
+use Rattle.std.proofs.lemmas.List.{length-replicate, length-reverse, reverse-append}
+use Rattle.rust_tree.specs.declared.pattern.ArmPattern.TheVariants as arm
+use Rattle.rust_tree.specs.declared.stmt.MatchNames.TheVariants as names_of
+use Rattle.rust_tree.specs.declared.stmt.Stmt.TheVariants as stmt
+use Rattle.wrapper_run.specs.Inward.{is_inward}
+use Rattle.func_gen.specs.declared.function_bindgen.FinishedBlock.{FinishedBlock}
+use Rattle.func_gen.specs.Added.{Appends}
+use Rattle.func_gen.specs.MatchForms.{arm_of}
+use Rattle.func_gen.specs.Uses.{Uses}
+use Rattle.func_gen.proofs.BlocksThere.{all_back, blocks_there, none_used}
+use Rattle.func_gen.proofs.function_bindgen.FunctionBindgen.free_cases.Goals as goal
+
+pub use_blocks-requires : goal.use_blocks-requires
+use_blocks-requires c =
+    let zero : ℕ = 0 in
+    let there = blocks_there c.args.self.now (replicate (c.args.count + 1) zero) c.requires.blocks in
+    record { there = omega (arith, there, length-replicate (c.args.count + 1) zero) }
+
+pub freed_arms-requires-clause-none : goal.freed_arms-requires-clause-none
+freed_arms-requires-clause-none c =
+    let None = λ (b : FinishedBlock). b.results ≡ [] in
+    let none = none_used c.in_ok-blocks.blocks (c.args.count + 1) c.args.self.now c.use_blocks.new.self c.in_ok-blocks.ensures c.requires.blocks in
+    all_back None c.parted-last.result.1 (subst (AllByRecursion None) c.parted-last.ensures none).1
+
+pub freed_body-requires : goal.freed_body-requires
+freed_body-requires c =
+    let None = λ (b : FinishedBlock). b.results ≡ [] in
+    let none = none_used c.in_ok-blocks.blocks (c.args.count + 1) c.args.self.now c.use_blocks.new.self c.in_ok-blocks.ensures c.requires.blocks in
+    record { none = (subst (AllByRecursion None) c.parted-last.ensures none).0 }
+
+pub returns : goal.returns
+returns c =
+    let old = c.args.self.now in
+    let mid = c.use_blocks.new.self in
+    let new = c.add_effect.new.self in
+    let blocks = c.in_ok-blocks.blocks in
+    let last = c.parted-last.result.0 in
+    let others = c.parted-last.result.1 in
+    let uses = c.in_ok-blocks.ensures in
+    let is : blocks ≡ last ∷ others = c.parted-last.ensures in
+    let long = ap length is in
+    let next : c.args.count + 1 ≡ suc c.args.count = omega arith in
+    let None = λ (b : FinishedBlock). b.results ≡ [] in
+    let none = subst (AllByRecursion None) is (none_used blocks (c.args.count + 1) old mid uses c.requires.blocks) in
+    let are = c.in_ok-push.ensures.ok ∙ ap₂ (λ arms b. arms ++ arm_of arm.AnyOther b ∷ []) c.in_ok-arms.ensures.arms c.in_ok-body.ensures.body in
+    record {
+      used = blocks;
+      mid = mid;
+      first = reverse others;
+      last = last;
+      split = ap reverse is ∙ reverse-append (last ∷ []) others;
+      many = length-reverse others ∙ omega (arith, long, uses.many);
+      uses = subst (λ k. Uses blocks k old mid) next uses;
+      none = all_back None others none.1;
+      none_last = none.0;
+      inward = c.in_ok-arms.ensures.inward;
+      inward_last = ap is_inward (sym c.in_ok-body.ensures.body) ∙ c.in_ok-body.ensures.inward;
+      adds = subst (λ ss. Appends mid new ss []) (ap₂ (λ e arms. stmt.Match names_of.Nothing e arms ∷ []) c.in_ok-e.ensures are) c.in_ok-add_effect.ensures.adds;
+      scope = c.in_ok-add_effect.ensures.scope;
+    }

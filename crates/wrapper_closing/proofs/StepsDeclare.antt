@@ -1,0 +1,214 @@
+-- What the code of steps that are no calls declares, where so much was declared before them.
+use Rattle.std.proofs.Common.{◌≡◌, ℕ, suc, true, List, [], ◌∷◌, ◌++◌, length, reverse, refl, sym, ap, ◌∙◌, subst}
+use Rattle.std.specs.List.{list_all}
+use Rattle.std.proofs.lemmas.Bool.{and_parts}
+use Rattle.std.proofs.lemmas.List.{length-map, length-reverse, reverse-append, reverse-reverse}
+use Rattle.wit_model.specs.Bytes.{Bytes}
+use Rattle.wit_model.specs.declared.types.TypeDef.{TypeDef}
+use Rattle.rust_tree.specs.declared.expr.Expr.{Expr}
+use Rattle.rust_tree.specs.declared.runtime_item.RuntimeItem.{RuntimeItem}
+use Rattle.rust_tree.specs.declared.runtime_item.RuntimeItem.TheVariants.{InvalidEnumDiscriminant}
+use Rattle.rust_tree.specs.declared.stmt.ImportDecl.{ImportDecl}
+use Rattle.rust_tree.specs.declared.stmt.Stmt.{Stmt}
+use Rattle.abi_bindgen.specs.declared.instruction.Instruction.TheVariants.{Bitcasts, CallInterface, CallWasm, ConstZero, GuestDeallocateVariant, OptionLift, OptionLower, ResultLift, ResultLower, VariantLift, VariantLower}
+use Rattle.abi_bindgen.specs.Sends.{Sends}
+use Rattle.abi_bindgen.specs.Sent.{Sent, asks, closes, opens, sends, sends_casts, sends_zeros}
+use Rattle.abi_bindgen.proofs.InnerSteps.{depth, is_quiet, sent_depth}
+use Rattle.func_gen.specs.declared.function_bindgen.Code.{Code}
+use Rattle.func_gen.specs.declared.function_bindgen.FinishedBlock.{FinishedBlock}
+use Rattle.func_gen.specs.declared.function_bindgen.FunctionBindgen.{FunctionBindgen}
+use Rattle.func_gen.specs.declared.function_bindgen.OpenBlock.{OpenBlock}
+use Rattle.func_gen.specs.declared.operand.ExprOperand.{ExprOperand}
+use Rattle.func_gen.specs.Added.{Appends}
+use Rattle.func_gen.specs.Formed.{BecomesTold, ClosesBlock, Formed, OpensBlock, block_of}
+use Rattle.func_gen.specs.LiftedCases.{LiftsBy, LiftsVariantBy, FreesBy}
+use Rattle.func_gen.specs.MatchForms.{LowersBy, lowered_arms, match_of}
+use Rattle.func_gen.specs.Meaning.{func_meaning}
+use Rattle.func_gen.specs.Opened.{is_closed, open_block}
+use Rattle.func_gen.specs.PartForms.{exprs_of}
+use Rattle.func_gen.specs.Uses.{Uses}
+use Rattle.wrapper_closing.specs.Declares.{Declaration}
+use Rattle.wrapper_closing.proofs.Undeclared.{AreBare, Declare, IsBare, declare_more, frees_bare, last_bare, lifts_bare, lowers_bare, no_stmts, told_bare}
+
+-- 1. What is declared by code that is made
+
+module _ (what : Declaration) where
+  -- the statements of open blocks declare none, and no more does the innermost code
+  abbrev pub AreInner : List OpenBlock → List Stmt → Type 0
+  AreInner [] stmts = Declare what [] stmts
+  AreInner (o ∷ opened) stmts = Declare what [] o.code.stmts × AreInner opened stmts
+
+  -- the outermost code declares these
+  abbrev pub Outer : List ImportDecl → List OpenBlock → List Stmt → Type 0
+  Outer decls [] stmts = Declare what decls stmts
+  Outer decls (o ∷ opened) stmts = Declare what decls o.code.stmts × AreInner opened stmts
+
+  pub record HasDeclared (decls : List ImportDecl) (b : FunctionBindgen) : Type 0 where
+    pub outer : Outer decls b.opened b.code.stmts
+    pub blocks : AreBare what b.finished
+
+  inner_more : (opened : List OpenBlock) (stmts added : List Stmt) → AreInner opened stmts → Declare what [] added → AreInner opened (stmts ++ added)
+  inner_more [] stmts added h g = declare_more what [] stmts added h g
+  inner_more (o ∷ opened) stmts added h g = (h.0, inner_more opened stmts added h.1 g)
+
+  outer_more : (decls : List ImportDecl) (opened : List OpenBlock) (stmts added : List Stmt) → Outer decls opened stmts → Declare what [] added → Outer decls opened (stmts ++ added)
+  outer_more decls [] stmts added h g = declare_more what decls stmts added h g
+  outer_more decls (o ∷ opened) stmts added h g = (h.0, inner_more opened stmts added h.1 g)
+
+  inner_opens : (opened : List OpenBlock) (o : OpenBlock) → AreInner opened o.code.stmts → AreInner (opened ++ o ∷ []) []
+  inner_opens [] o h = (h, no_stmts what)
+  inner_opens (p ∷ opened) o h = (h.0, inner_opens opened o h.1)
+
+  outer_opens : (decls : List ImportDecl) (opened : List OpenBlock) (o : OpenBlock) → Outer decls opened o.code.stmts → Outer decls (opened ++ o ∷ []) []
+  outer_opens decls [] o h = (h, no_stmts what)
+  outer_opens decls (p ∷ opened) o h = (h.0, inner_opens opened o h.1)
+
+  inner_closes : (opened : List OpenBlock) (o : OpenBlock) (stmts : List Stmt) → AreInner (opened ++ o ∷ []) stmts → AreInner opened o.code.stmts × Declare what [] stmts
+  inner_closes [] o stmts h = (h.0, h.1)
+  inner_closes (p ∷ opened) o stmts h = let rest = inner_closes opened o stmts h.1 in ((h.0, rest.0), rest.1)
+
+  outer_closes : (decls : List ImportDecl) (opened : List OpenBlock) (o : OpenBlock) (stmts : List Stmt) → Outer decls (opened ++ o ∷ []) stmts → Outer decls opened o.code.stmts × Declare what [] stmts
+  outer_closes decls [] o stmts h = (h.0, h.1)
+  outer_closes decls (p ∷ opened) o stmts h = let rest = inner_closes opened o stmts h.1 in ((h.0, rest.0), rest.1)
+
+  -- 2. Blocks that are finished and used up
+
+  bare_both : (some others : List FinishedBlock) → AreBare what some → AreBare what others → AreBare what (some ++ others)
+  bare_both [] others h g = g
+  bare_both (b ∷ some) others h g = (h.0, bare_both some others h.1 g)
+
+  bare_first : (some others : List FinishedBlock) → AreBare what (some ++ others) → AreBare what some
+  bare_first [] others h = tt
+  bare_first (b ∷ some) others h = (h.0, bare_first some others h.1)
+
+  bare_later : (some others : List FinishedBlock) → AreBare what (some ++ others) → AreBare what others
+  bare_later [] others h = h
+  bare_later (b ∷ some) others h = bare_later some others h.1
+
+  bare_reverse : (blocks : List FinishedBlock) → AreBare what blocks → AreBare what (reverse blocks)
+  bare_reverse [] h = tt
+  bare_reverse (b ∷ blocks) h = subst (AreBare what) (sym (reverse-append (b ∷ []) blocks)) (bare_both (reverse blocks) (b ∷ []) (bare_reverse blocks h.1) (h.0, tt))
+
+  module _ (decls : List ImportDecl) (old : FunctionBindgen) (h : HasDeclared decls old) where
+    -- statements that declare none are added
+    adds : (new : FunctionBindgen) (added : List Stmt) → new.opened ≡ old.opened → new.code.stmts ≡ old.code.stmts ++ added → Declare what [] added → AreBare what new.finished → HasDeclared decls new
+    adds new added opened stmts g blocks = record {
+      outer = subst (λ o. Outer decls o new.code.stmts) (sym opened) (subst (Outer decls old.opened) (sym stmts) (outer_more decls old.opened old.code.stmts added h.outer g));
+      blocks = blocks;
+    }
+
+    module _ (used : List FinishedBlock) (n : ℕ) (mid : FunctionBindgen) (uses : Uses used n old mid) where
+      turned : AreBare what (used ++ reverse mid.finished)
+      turned = subst (AreBare what) uses.taken (bare_reverse old.finished h.blocks)
+
+      used_bare : AreBare what (reverse used)
+      used_bare = bare_reverse used (bare_first used (reverse mid.finished) turned)
+
+      left_bare : AreBare what mid.finished
+      left_bare = subst (AreBare what) (reverse-reverse mid.finished) (bare_reverse (reverse mid.finished) (bare_later used (reverse mid.finished) turned))
+
+      -- a match of them is added
+      matches : (new : FunctionBindgen) (added : List Stmt) (items : List RuntimeItem) → Appends mid new added items → Declare what [] added → HasDeclared decls new
+      matches new added items a g =
+          adds new added (a.opened ∙ ap (λ (b : FunctionBindgen). b.opened) uses.rest) (a.stmts ∙ ap (λ (b : FunctionBindgen). b.code.stmts ++ added) uses.rest) g (subst (AreBare what) (sym a.finished) left_bare)
+
+    lowered : (cases : _) (e : Expr) (n : ℕ) (names : List Bytes) (new : FunctionBindgen) → LowersBy cases e n names old new → HasDeclared decls new
+    lowered cases e n names new l =
+        matches l.used (length cases) l.mid l.uses new (match_of names e (lowered_arms cases (reverse l.used)) ∷ []) [] l.adds (lowers_bare what names e cases (reverse l.used) (used_bare l.used (length cases) l.mid l.uses))
+
+    lifted : (cases : _) (e : Expr) (v : Bytes) (new : FunctionBindgen) → LiftsBy cases e v old new → HasDeclared decls new
+    lifted cases e v new l = matches l.used (length cases) l.mid l.uses new _ (InvalidEnumDiscriminant ∷ []) l.adds (lifts_bare what v e cases (reverse l.used) (used_bare l.used (length cases) l.mid l.uses))
+
+    lifted_last : (cases : _) (c : _) (e : Expr) (n v : Bytes) (new : FunctionBindgen) → LiftsVariantBy cases c e n v old new → HasDeclared decls new
+    lifted_last cases c e n v new l =
+        let bare = subst (AreBare what) l.split (used_bare l.used (suc (length cases)) l.mid l.uses) in
+        matches l.used (suc (length cases)) l.mid l.uses new _ [] l.adds (last_bare what n v e cases c l.first l.last (bare_first l.first (l.last ∷ []) bare) (bare_later l.first (l.last ∷ []) bare).0)
+
+    freed : (k : ℕ) (e : Expr) (new : FunctionBindgen) → FreesBy k e old new → HasDeclared decls new
+    freed k e new l =
+        let bare = subst (AreBare what) l.split (used_bare l.used (suc k) l.mid l.uses) in
+        matches l.used (suc k) l.mid l.uses new _ [] l.adds (frees_bare what e l.first l.last (bare_first l.first (l.last ∷ []) bare) (bare_later l.first (l.last ∷ []) bare).0)
+
+    opened_block : (new : FunctionBindgen) → OpensBlock old new → HasDeclared decls new
+    opened_block new o =
+        let block : OpenBlock = record { number = o.number; names = old.scope.used; code = old.code } in
+        record {
+          outer = subst (λ x. Outer decls new.opened x) (sym (ap (λ (c : Code). c.stmts) o.code)) (subst (λ x. Outer decls x []) (sym o.opened) (outer_opens decls old.opened block h.outer));
+          blocks = subst (AreBare what) (sym o.finished) h.blocks;
+        }
+
+    closed_block : (os : List ExprOperand) (new : FunctionBindgen) → ClosesBlock os old new → HasDeclared decls new
+    closed_block os new c =
+        let parts = outer_closes decls new.opened c.block old.code.stmts (subst (λ x. Outer decls x old.code.stmts) c.opened h.outer) in
+        record {
+          outer = subst (λ (x : Code). Outer decls new.opened x.stmts) (sym c.code) parts.0;
+          blocks = subst (AreBare what) (sym c.finished) (bare_both old.finished (block_of c.block old.code.stmts os ∷ []) h.blocks (parts.1, tt));
+        }
+
+    written : (step : Sent) (os rs : List ExprOperand) (new : FunctionBindgen) → BecomesTold step os rs old new → HasDeclared decls new
+    written step os rs new t =
+        let bare = subst (IsBare what) t.is (told_bare what old step (exprs_of os)) in
+        adds new (t.code t.writes.number).stmts t.writes.opened t.writes.stmts (bare t.writes.number) (subst (AreBare what) (sym t.writes.finished) h.blocks)
+
+    -- a step that is no call leaves what is declared
+    step_declares : (types : List TypeDef) (step : Sent) (os rs : List ExprOperand) (new : FunctionBindgen) → is_quiet step ≡ true → Formed types step os rs old new → HasDeclared decls new
+    step_declares types (sends (CallWasm g)) os rs new q f = absurd (let no = q in cc)
+    step_declares types (sends (CallInterface g)) os rs new q f = absurd (let no = q in cc)
+    step_declares types (sends (VariantLower id n)) os rs new q f = let c = f.code in lowered c.forms c.operand n c.names new c.lowers
+    step_declares types (sends (OptionLower id n)) os rs new q f = let c = f.code in lowered c.forms c.operand n c.names new c.lowers
+    step_declares types (sends (ResultLower id n)) os rs new q f = let c = f.code in lowered c.forms c.operand n c.names new c.lowers
+    step_declares types (sends (OptionLift id)) os rs new q f = let c = f.code in lifted c.forms c.operand c.name new c.lifts
+    step_declares types (sends (ResultLift id)) os rs new q f = let c = f.code in lifted c.forms c.operand c.name new c.lifts
+    step_declares types (sends (VariantLift id)) os rs new q f = let c = f.code in lifted_last c.forms c.last c.operand c.number c.name new c.lifts
+    step_declares types (sends (GuestDeallocateVariant n)) os rs new q f = let c = f.code in freed c.first c.operand new c.frees
+    step_declares types opens os rs new q f = opened_block new f.code
+    step_declares types closes os rs new q f = closed_block os new f.code
+    step_declares types step os rs new q f = written step os rs new f.code
+
+  -- 3. Steps
+
+  pub declares_still : (types : List TypeDef) (decls : List ImportDecl) (steps : List Sent) (old new : FunctionBindgen) → list_all is_quiet steps ≡ true → Sends func_meaning types steps old new → HasDeclared decls old → HasDeclared decls new
+  declares_still types decls [] old new q h d = subst (HasDeclared decls) (sym h) d
+  declares_still types decls (sends i ∷ steps) old new q (os, rs, next, e, more) d =
+      let both = and_parts (is_quiet (sends i)) (list_all is_quiet steps) q in declares_still types decls steps next new both.1 more (step_declares decls old d types (sends i) os rs next both.0 e.form)
+  declares_still types decls (asks a ∷ steps) old new q (o, next, p, more) d = declares_still types decls steps next new q more (step_declares decls old d types (asks a) [] (o ∷ []) next refl (p.form types))
+  declares_still types decls (opens ∷ steps) old new q (next, p, more) d = declares_still types decls steps next new q more (step_declares decls old d types opens [] [] next refl (p.form types))
+  declares_still types decls (closes ∷ steps) old new q (os, next, p, more) d = declares_still types decls steps next new q more (step_declares decls old d types closes os [] next refl (p.form types))
+  declares_still types decls (sends_casts casts ∷ steps) old new q (held, same, os, rs, next, e, more) d = declares_still types decls steps next new q more (step_declares decls old d types (sends (Bitcasts held)) os rs next refl e.form)
+  declares_still types decls (sends_zeros zeros ∷ steps) old new q (held, same, os, rs, next, e, more) d = declares_still types decls steps next new q more (step_declares decls old d types (sends (ConstZero held)) os rs next refl e.form)
+
+  -- what the code declares where no block is open
+  pub outside_of : (decls : List ImportDecl) (b : FunctionBindgen) → b.opened ≡ [] → HasDeclared decls b → Declare what decls b.code.stmts
+  outside_of decls b none h = subst (λ o. Outer decls o b.code.stmts) none h.outer
+
+-- 4. Parts of steps, and blocks that are open
+
+-- what was sent first, and then the rest
+pub sent_parts : (types : List TypeDef) (steps later : List Sent) (old new : FunctionBindgen) → Sends func_meaning types (steps ++ later) old new → (mid : FunctionBindgen) × Sends func_meaning types steps old mid × Sends func_meaning types later mid new
+sent_parts types [] later old new h = (old, refl, h)
+sent_parts types (sends i ∷ steps) later old new (os, rs, next, e, more) = let (mid, one, two) = sent_parts types steps later next new more in (mid, (os, rs, next, e, one), two)
+sent_parts types (asks a ∷ steps) later old new (o, next, p, more) = let (mid, one, two) = sent_parts types steps later next new more in (mid, (o, next, p, one), two)
+sent_parts types (opens ∷ steps) later old new (next, p, more) = let (mid, one, two) = sent_parts types steps later next new more in (mid, (next, p, one), two)
+sent_parts types (closes ∷ steps) later old new (os, next, p, more) = let (mid, one, two) = sent_parts types steps later next new more in (mid, (os, next, p, one), two)
+sent_parts types (sends_casts casts ∷ steps) later old new (held, same, os, rs, next, e, more) = let (mid, one, two) = sent_parts types steps later next new more in (mid, (held, same, os, rs, next, e, one), two)
+sent_parts types (sends_zeros zeros ∷ steps) later old new (held, same, os, rs, next, e, more) = let (mid, one, two) = sent_parts types steps later next new more in (mid, (held, same, os, rs, next, e, one), two)
+
+pub no_more : {A : Type 0} (xs : List A) → length xs ≡ 0 → xs ≡ []
+no_more [] h = refl
+no_more (x ∷ xs) h = absurd (let no = h in cc)
+
+pub closed_is : (opened : List OpenBlock) → is_closed opened ≡ true → opened ≡ []
+closed_is [] h = refl
+closed_is (o ∷ opened) h = absurd (let no = h in cc)
+
+-- how many blocks are open
+pub open_many : (b : FunctionBindgen) → length (func_meaning.opened b) ≡ length b.opened
+open_many b = length-map (reverse b.opened) open_block ∙ length-reverse b.opened
+
+pub none_open : (b : FunctionBindgen) → func_meaning.opened b ≡ [] → b.opened ≡ []
+none_open b h = no_more b.opened (sym (open_many b) ∙ ap length h)
+
+-- code that opens and closes its blocks in pairs leaves none open
+pub closed_still : (types : List TypeDef) (steps : List Sent) (old new : FunctionBindgen) → ((n : ℕ) → depth steps n ≡ n) → Sends func_meaning types steps old new → old.opened ≡ [] → new.opened ≡ []
+closed_still types steps old new nested h none =
+    no_more new.opened (sym (open_many new) ∙ sent_depth func_meaning types steps old new h ∙ nested (length (func_meaning.opened old)) ∙ open_many old ∙ ap length none)
