@@ -71,6 +71,7 @@ module _ {Self Operand : Type 0} (m : Meaning Self Operand) where
     exports = h.exports ∙ g.exports;
     arguments = h.arguments ∙ g.arguments;
     knows = λ types k. h.knows types (g.knows types k);
+    writes = λ types id k. h.writes types id (g.writes types id k);
     target = λ fn. h.target fn ∙ g.target fn;
     crosses = λ w fn. h.crosses w fn ∙ g.crosses w fn;
     opened = h.opened ∙ g.opened;
@@ -78,7 +79,7 @@ module _ {Self Operand : Type 0} (m : Meaning Self Operand) where
   }
 
   pub grows_none : (a : Self) → Grows m a a
-  grows_none a = record { serves = λ w h. h; more = λ w h. (w, h); stops = λ w f s h. stops_same m.account (m.does w f (m.code a) s); imports = refl; exports = refl; arguments = refl; knows = λ types h. h; target = λ f. refl; crosses = λ w f. refl; opened = refl; known = λ w facts s h. h }
+  grows_none a = record { serves = λ w h. h; more = λ w h. (w, h); stops = λ w f s h. stops_same m.account (m.does w f (m.code a) s); imports = refl; exports = refl; arguments = refl; knows = λ types h. h; writes = λ types id h. h; target = λ f. refl; crosses = λ w f. refl; opened = refl; known = λ w facts s h. h }
 
   pub no_blocks : (a : Self) → AddsBlocks m [] [] a a
   no_blocks a = record {
@@ -143,6 +144,7 @@ module _ {Self Operand : Type 0} (m : Meaning Self Operand) (sound : Sound m) (a
       exports = close_block.lasts.exports ∙ adds.grows.exports ∙ open_block.lasts.exports;
       arguments = close_block.lasts.arguments ∙ adds.grows.arguments ∙ open_block.lasts.arguments;
       knows = λ types k. close_block.lasts.knows types (adds.grows.knows types (open_block.lasts.knows types k));
+      writes = λ types id k. close_block.lasts.writes types id (adds.grows.writes types id (open_block.lasts.writes types id k));
       target = λ fn. close_block.lasts.target fn ∙ adds.grows.target fn ∙ open_block.lasts.target fn;
       crosses = λ w fn. close_block.lasts.crosses w fn ∙ adds.grows.crosses w fn ∙ open_block.lasts.crosses w fn;
       opened = same_opened m sound a b c d os open_block adds close_block;

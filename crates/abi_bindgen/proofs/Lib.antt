@@ -23,3 +23,4 @@ pub mod Variants
 pub mod WordBits
 pub mod WordCounts
 pub mod WordRanges
+pub mod Writing

@@ -53,7 +53,7 @@ addresses_both (x ∷ xs) ys = ap (λ zs. x.address ∷ zs) (addresses_both xs y
 
 module _ {Self Operand : Type 0} (m : Meaning Self Operand) where
   pub grows_same : (a : Self) → Grows m a a
-  grows_same a = record { serves = λ w h. h; more = λ w h. (w, h); stops = λ w f s h. stops_same m.account (m.does w f (m.code a) s); imports = refl; exports = refl; arguments = refl; knows = λ types h. h; target = λ f. refl; crosses = λ w f. refl; opened = refl; known = λ w facts s h. h }
+  grows_same a = record { serves = λ w h. h; more = λ w h. (w, h); stops = λ w f s h. stops_same m.account (m.does w f (m.code a) s); imports = refl; exports = refl; arguments = refl; knows = λ types h. h; writes = λ types id h. h; target = λ f. refl; crosses = λ w f. refl; opened = refl; known = λ w facts s h. h }
 
   pub adds_same : (a : Self) → Adds m a a
   adds_same a = record { grows = grows_same a; quiet = λ w f s h. refl; uncalled = λ u. u; asked = refl; blocks = refl }
@@ -67,6 +67,7 @@ module _ {Self Operand : Type 0} (m : Meaning Self Operand) where
     exports = h.exports ∙ g.exports;
     arguments = h.arguments ∙ g.arguments;
     knows = λ types k. h.knows types (g.knows types k);
+    writes = λ types id k. h.writes types id (g.writes types id k);
     target = λ fn. h.target fn ∙ g.target fn;
     crosses = λ w fn. h.crosses w fn ∙ g.crosses w fn;
     opened = h.opened ∙ g.opened;

@@ -49,14 +49,14 @@ module _ {Self Operand : Type 0} (m : Meaning Self Operand) (sound : Sound m) (r
         (subst (λ js. AreFinished m b js (m.blocks b)) (reverse_replicate (count (Cases_of k)) (case_words r.types (payloads_of k)))
         (subst (AreFinished m b (reverse ks)) (sym blocks.adds.blocks) (finished_back m b ks blocks.bodies (m.blocks a) blocks.adds.many blocks.adds.finished)))
 
-    pub variant_sendable : IsWellFormed r → (k : TypeDefKind) (n : ℕ) (o : Operand) → IsKindOf r.types id.0 k → has_cases k ≡ true → n ≡ case_words r.types (payloads_of k) → LowersCases m realloc (Cases_of k) 0 (shared_slots r.types (payloads_of k)) a b
+    pub variant_sendable : IsWellFormed r → m.writes b r.types id.0 → (k : TypeDefKind) (n : ℕ) (o : Operand) → IsKindOf r.types id.0 k → has_cases k ≡ true → n ≡ case_words r.types (payloads_of k) → LowersCases m realloc (Cases_of k) 0 (shared_slots r.types (payloads_of k)) a b
         → IsSendable m r (case_lowering k id n) (o ∷ []) b
-    variant_sendable well (kind.Variant members) n o here h is blocks =
+    variant_sendable well writes (kind.Variant members) n o here h is blocks =
         let k = kind.Variant members in
-        record { built = refl; operands = refl; suits = (members, here, subst (λ js. AreFinished m b js (m.blocks b)) (sym (results_are k n h (payloads_here r.types down id.0 k here h))) (finished_all k n is blocks), well) }
-    variant_sendable well (kind.Option ty) n o here h is blocks = record { built = refl; operands = refl; suits = (ty, here, finished_all (kind.Option ty) n is blocks, well) }
-    variant_sendable well (kind.Result ok err) n o here h is blocks = record { built = refl; operands = refl; suits = (ok, err, here, finished_all (kind.Result ok err) n is blocks, well) }
-    variant_sendable well _ n o here h is blocks = absurd cc
+        record { built = refl; operands = refl; suits = (members, here, subst (λ js. AreFinished m b js (m.blocks b)) (sym (results_are k n h (payloads_here r.types down id.0 k here h))) (finished_all k n is blocks), well, writes) }
+    variant_sendable well writes (kind.Option ty) n o here h is blocks = record { built = refl; operands = refl; suits = (ty, here, finished_all (kind.Option ty) n is blocks, well) }
+    variant_sendable well writes (kind.Result ok err) n o here h is blocks = record { built = refl; operands = refl; suits = (ok, err, here, finished_all (kind.Result ok err) n is blocks, well) }
+    variant_sendable well writes _ n o here h is blocks = absurd cc
 
     module _ (k : TypeDefKind) (n : ℕ) (c : Self) (o : Operand) (os : List Operand) (here : IsKindOf r.types id.0 k) (has : has_cases k ≡ true) (is : n ≡ case_words r.types (payloads_of k)) (most : length (payloads_of k) ≤ 2 ^ 31)
         (blocks : LowersCases m realloc (Cases_of k) 0 (shared_slots r.types (payloads_of k)) a b) where

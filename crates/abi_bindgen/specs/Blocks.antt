@@ -65,6 +65,7 @@ module _ {Self Operand : Type 0} (m : Meaning Self Operand) where
     pub exports : m.exports new ≡ m.exports old
     pub arguments : m.arguments new ≡ m.arguments old
     pub knows : (types : List TypeDef) → m.knows old types → m.knows new types
+    pub writes : (types : List TypeDef) (id : ℕ) → m.writes old types id → m.writes new types id
     pub target : (f : Function) → m.target new f ≡ m.target old f
     pub crosses : (w : m.World) (f : Function) → m.crosses w new f ≡ m.crosses w old f
     pub known : (w : m.World) (facts : Facts m) (s : m.State) → m.denotes w old facts s → m.denotes w new facts s

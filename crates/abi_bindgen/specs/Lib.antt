@@ -34,3 +34,4 @@ pub mod SlotCasts
 pub mod Touches
 pub mod Turns
 pub mod WordCount
+pub mod Written

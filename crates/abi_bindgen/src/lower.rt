@@ -4,7 +4,7 @@ pub(crate) mod leaf;
 pub(crate) mod variants;
 
 ghost use Rattle.std.specs.Prelude.{◌≡◌, ◌<◌, ◌≤◌, ◌^◌, IsTrue, Some, true, length, IfOk, OnOk};
-ghost use Rattle.std.specs.List.{list_all};
+ghost use Rattle.std.specs.List.{AllByRecursion, list_all};
 ghost use Rattle.std.specs.Option.{option_map};
 ghost use Rattle.wit_model.specs.TypeOrder.{GoesDown, payload_below, type_below};
 ghost use Rattle.wit_model.specs.WellFormed.{IsWellFormed};
@@ -22,6 +22,7 @@ ghost use Rattle.abi_bindgen.specs.Sends.{Sends};
 ghost use Rattle.abi_bindgen.specs.Served.{Serves, ServesAll};
 ghost use Rattle.abi_bindgen.specs.SlotCasts.{FitIn};
 ghost use Rattle.abi_bindgen.specs.WordCount.{word_count, word_counts};
+ghost use Rattle.abi_bindgen.specs.Written.{Writes, WritesEach, WritesPart};
 
 use crate::bindgen::{Bindgen, Operand};
 use crate::casts::{cast_words, zero_words};
@@ -52,6 +53,7 @@ pub fn lower_flat<B: Bindgen>(
     requires below { IsTrue (type_below (length resolve.now.types) ty.now) }
     requires side { IsSide B.meaning realloc bindgen.old }
     requires serves { Serves (shape_of resolve.now.types ty.now) }
+    requires writes { Writes B.meaning resolve.now.types ty.now bindgen.old }
     requires few { word_count resolve.now.types ty.now ≤ 16 }
     ensures lowers { IfOk result (λ os. LowersFlat B.meaning realloc (shape_of resolve.now.types ty.now) value os bindgen.old bindgen.new) }
     ensures sends { OnOk result (Sends B.meaning resolve.now.types (lower_code resolve.now.types realloc ty.now) bindgen.old bindgen.new) }
@@ -75,6 +77,7 @@ fn lower_type<B: Bindgen>(
     requires below { IsTrue (type_below (length resolve.now.types) ty) }
     requires side { IsSide B.meaning realloc bindgen.old }
     requires serves { Serves (shape_of resolve.now.types ty) }
+    requires writes { Writes B.meaning resolve.now.types ty bindgen.old }
     requires few { word_count resolve.now.types ty ≤ 16 }
     ensures lowers { IfOk result (λ os. LowersFlat B.meaning realloc (shape_of resolve.now.types ty) value os bindgen.old bindgen.new) }
     ensures sends { OnOk result (Sends B.meaning resolve.now.types (lower_code resolve.now.types realloc ty) bindgen.old bindgen.new) }
@@ -109,6 +112,7 @@ fn lower_id<B: Bindgen>(
     requires within { id.0 < length resolve.now.types }
     requires side { IsSide B.meaning realloc bindgen.old }
     requires serves { Serves (shape_at resolve.now.types id.0) }
+    requires writes { Writes B.meaning resolve.now.types (Id id) bindgen.old }
     requires few { word_count resolve.now.types (Id id) ≤ 16 }
     ensures lowers { IfOk result (λ os. LowersFlat B.meaning realloc (shape_at resolve.now.types id.0) value os bindgen.old bindgen.new) }
     ensures sends { OnOk result (Sends B.meaning resolve.now.types (lower_code resolve.now.types realloc (Id id)) bindgen.old bindgen.new) }
@@ -160,6 +164,7 @@ fn lower_record<B: Bindgen>(
     requires here { IsKindOf resolve.now.types id.0 (kind.Record members.now) }
     requires side { IsSide B.meaning realloc bindgen.old }
     requires serves { Serves (shape_at resolve.now.types id.0) }
+    requires writes { Writes B.meaning resolve.now.types (Id id) bindgen.old }
     requires few { word_count resolve.now.types (Id id) ≤ 16 }
     ensures lowers { IfOk result (λ os. LowersFlat B.meaning realloc (shape_at resolve.now.types id.0) value os bindgen.old bindgen.new) }
     ensures sends { OnOk result (Sends B.meaning resolve.now.types (lower_code resolve.now.types realloc (Id id)) bindgen.old bindgen.new) }
@@ -188,6 +193,7 @@ fn lower_tuple<B: Bindgen>(
     requires here { IsKindOf resolve.now.types id.0 (kind.Tuple members.now) }
     requires side { IsSide B.meaning realloc bindgen.old }
     requires serves { Serves (shape_at resolve.now.types id.0) }
+    requires writes { Writes B.meaning resolve.now.types (Id id) bindgen.old }
     requires few { word_count resolve.now.types (Id id) ≤ 16 }
     ensures lowers { IfOk result (λ os. LowersFlat B.meaning realloc (shape_at resolve.now.types id.0) value os bindgen.old bindgen.new) }
     ensures sends { OnOk result (Sends B.meaning resolve.now.types (lower_code resolve.now.types realloc (Id id)) bindgen.old bindgen.new) }
@@ -217,6 +223,7 @@ fn lower_variant<B: Bindgen>(
     requires cases { has_cases kind.now ≡ true }
     requires side { IsSide B.meaning realloc bindgen.old }
     requires serves { Serves (shape_at resolve.now.types id.0) }
+    requires writes { Writes B.meaning resolve.now.types (Id id) bindgen.old }
     requires few { word_count resolve.now.types (Id id) ≤ 16 }
     ensures lowers { IfOk result (λ os. LowersFlat B.meaning realloc (shape_at resolve.now.types id.0) value os bindgen.old bindgen.new) }
     ensures sends { OnOk result (Sends B.meaning resolve.now.types (lower_code resolve.now.types realloc (Id id)) bindgen.old bindgen.new) }
@@ -246,6 +253,7 @@ fn lower_cases<B: Bindgen>(
     requires below { list_all (λ payload. payload_below id.0 payload) payloads.now ≡ true }
     requires side { IsSide B.meaning realloc bindgen.old }
     requires serves { Serves (shape_at resolve.now.types id.0) }
+    requires writes { AllByRecursion (λ p. WritesPart B.meaning resolve.now.types p bindgen.old) payloads.now }
     requires sixteen { word_count resolve.now.types (Id id) ≤ 16 }
     ensures words { IfOk result (λ n. n ≡ case_words resolve.now.types payloads.now) }
     ensures few { OnOk result (length payloads.now ≤ 2 ^ 31) }
@@ -280,6 +288,7 @@ fn lower_case<B: Bindgen>(
     requires fits { FitIn (payload_words resolve.now.types payload) slots.now }
     requires side { IsSide B.meaning realloc bindgen.old }
     requires serves { Serves (payload_in (shapes resolve.now.types) payload) }
+    requires writes { WritesPart B.meaning resolve.now.types payload bindgen.old }
     requires sixteen { length slots.now ≤ 16 }
     ensures lowers { OnOk result (LowersCases B.meaning realloc (more (payload_in (shapes resolve.now.types) payload) none) number slots.now bindgen.old bindgen.new) }
     ensures sends { OnOk result (Sends B.meaning resolve.now.types (lower_case resolve.now.types slots.now number payload (option_map (lower_code resolve.now.types realloc) payload)) bindgen.old bindgen.new) }
@@ -311,6 +320,7 @@ fn lower_payload<B: Bindgen>(
     requires fits { FitIn (payload_words resolve.now.types (Some ty)) slots.now }
     requires side { IsSide B.meaning realloc bindgen.old }
     requires serves { Serves (shape_of resolve.now.types ty) }
+    requires writes { Writes B.meaning resolve.now.types ty bindgen.old }
     requires sixteen { length slots.now ≤ 16 }
     ensures lowers { OnOk result (LowersCases B.meaning realloc (more (shape_of resolve.now.types ty) none) number slots.now bindgen.old bindgen.new) }
     ensures sends { OnOk result (Sends B.meaning resolve.now.types (lower_case resolve.now.types slots.now number (Some ty) (Some (lower_code resolve.now.types realloc ty))) bindgen.old bindgen.new) }
@@ -348,6 +358,7 @@ fn lower_parts<B: Bindgen>(
     requires enough { length parts.now ≡ length tys.now }
     requires side { IsSide B.meaning realloc bindgen.old }
     requires serves { ServesAll (shapes_of resolve.now.types tys.now) }
+    requires writes { WritesEach B.meaning resolve.now.types tys.now bindgen.old }
     requires few { word_counts resolve.now.types tys.now ≤ 16 }
     ensures lowers { IfOk result (λ os. LowersAll B.meaning realloc (shapes_of resolve.now.types tys.now) parts.now os bindgen.old bindgen.new) }
     ensures sends { OnOk result (Sends B.meaning resolve.now.types (each (λ n ty. lower_code resolve.now.types realloc ty) 0 tys.now) bindgen.old bindgen.new) }

@@ -86,10 +86,10 @@ module _ {Self Operand : Type 0} (m : Meaning Self Operand) where
     lifts_by (kind.Result ok err) o r a b is has e = lifts_variant serves_none (ok ∷ err ∷ []) o r a b (payloads_here types down id.0 (kind.Result ok err) is has) e.adds e.blocks e.asked e.row
     lifts_by _ o r a b is has e = absurd (let h = has in cc)
 
-  module _ (r : Resolve) (well : IsWellFormed r) (down : GoesDown r.types) (id : TypeId) (o : Operand) (b : Self) where
+  module _ (r : Resolve) (well : IsWellFormed r) (down : GoesDown r.types) (id : TypeId) (o : Operand) (b : Self) (writes : m.writes b r.types id.0) where
     pub lifting_sendable : (k : TypeDefKind) → IsKindOf r.types id.0 k → has_cases k ≡ true → HasBlocks m (payload_counts (payloads_of k)) b → IsSendable m r (case_lifting k id) (o ∷ []) b
     lifting_sendable (kind.Variant members) is has there =
-        record { built = refl; operands = refl; suits = (members, is, subst (λ ps. HasBlocks m (payload_counts ps) b) (sym (payloads_here r.types down id.0 (kind.Variant members) is has)) there, well) }
+        record { built = refl; operands = refl; suits = (members, is, subst (λ ps. HasBlocks m (payload_counts ps) b) (sym (payloads_here r.types down id.0 (kind.Variant members) is has)) there, well, writes) }
     lifting_sendable (kind.Option ty) is has there = record { built = refl; operands = refl; suits = (ty, is, subst (λ ps. HasBlocks m (payload_counts ps) b) (sym (payloads_here r.types down id.0 (kind.Option ty) is has)) there, well) }
     lifting_sendable (kind.Result ok err) is has there =
         record { built = refl; operands = refl; suits = (ok, err, is, subst (λ ps. HasBlocks m (payload_counts ps) b) (sym (payloads_here r.types down id.0 (kind.Result ok err) is has)) there, well) }
@@ -97,7 +97,7 @@ module _ {Self Operand : Type 0} (m : Meaning Self Operand) where
 
     pub lowering_sendable : (k : TypeDefKind) (n : ℕ) → IsKindOf r.types id.0 k → has_cases k ≡ true → HasBlocks m (replicate (length (payloads_of k)) n) b → IsSendable m r (case_lowering k id n) (o ∷ []) b
     lowering_sendable (kind.Variant members) n is has there =
-        record { built = refl; operands = refl; suits = (members, is, subst (λ ps. HasBlocks m (replicate (length ps) n) b) (sym (payloads_here r.types down id.0 (kind.Variant members) is has)) there, well) }
+        record { built = refl; operands = refl; suits = (members, is, subst (λ ps. HasBlocks m (replicate (length ps) n) b) (sym (payloads_here r.types down id.0 (kind.Variant members) is has)) there, well, writes) }
     lowering_sendable (kind.Option ty) n is has there = record { built = refl; operands = refl; suits = (ty, is, there, well) }
     lowering_sendable (kind.Result ok err) n is has there = record { built = refl; operands = refl; suits = (ok, err, is, there, well) }
     lowering_sendable _ n is has there = absurd (let h = has in cc)

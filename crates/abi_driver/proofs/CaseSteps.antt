@@ -1,7 +1,9 @@
 -- Finished blocks of cases: how they are added one after another, how each begins and ends, and what an instruction that uses them up leaves.
-use Rattle.std.proofs.Common.{◌≡◌, ℕ, zero, suc, ◌+◌, Bool, false, true, List, [], ◌∷◌, ◌++◌, length, drop, take, replicate, reverse, refl, sym, ap, ◌∙◌, subst, arith, append-nil, append_assoc}
+use Rattle.std.proofs.Common.{◌≡◌, ℕ, zero, suc, ◌+◌, Bool, false, true, List, [], ◌∷◌, ◌++◌, length, drop, take, replicate, reverse, Option, None, Some, refl, sym, ap, ◌∙◌, subst, arith, append-nil, append_assoc}
 use Rattle.std.specs.List.{AllByRecursion, flat_map}
 use Rattle.std.proofs.lemmas.List.{length-reverse, replicate_more, reverse-append, reverse-reverse}
+use Rattle.wit_model.specs.declared.types.TypeDef.{TypeDef}
+use Rattle.wit_model.specs.declared.types.WitType.{WitType}
 use Rattle.wrapper_meaning.specs.Items.{SameItems, total}
 use Rattle.abi_bindgen.specs.Account.{Done, Peer, Stops, account_in}
 use Rattle.abi_bindgen.specs.Arms.{arms}
@@ -10,6 +12,7 @@ use Rattle.abi_driver.specs.FinishedBlocks.{AddsBlock, AddsBlocks, AreQuiet, Res
 use Rattle.abi_bindgen.specs.Instructions.{AddsCode, IsSide}
 use Rattle.abi_bindgen.specs.Laws.{Adds, At, Data, Facts, Grows, Quiet, Sound, StaysUncalled, ofs}
 use Rattle.abi_bindgen.specs.Meaning.{Bound, Meaning}
+use Rattle.abi_bindgen.specs.Written.{WritesPart}
 use Rattle.abi_bindgen.proofs.BlockSteps.{block_quiet, one_block_more, same_code, same_opened, same_slot}
 
 -- 1. Lists of blocks
@@ -42,7 +45,7 @@ module _ {Self Operand : Type 0} (m : Meaning Self Operand) where
   -- 2. One after another
 
   pub resumes_same : (a : Self) → Resumes m a a
-  resumes_same a = record { serves = λ w h. h; more = λ w h. (w, h); code = refl; opened = refl; imports = refl; exports = refl; arguments = refl; knows = λ types h. h; target = λ f. refl; crosses = λ w f. refl; known = λ w facts s h. h; asked = refl; uncalled = λ h. h }
+  resumes_same a = record { serves = λ w h. h; more = λ w h. (w, h); code = refl; opened = refl; imports = refl; exports = refl; arguments = refl; knows = λ types h. h; writes = λ types id h. h; target = λ f. refl; crosses = λ w f. refl; known = λ w facts s h. h; asked = refl; uncalled = λ h. h }
 
   pub resumes_both : (a b c : Self) → Resumes m a b → Resumes m b c → Resumes m a c
   resumes_both a b c g h = record {
@@ -54,6 +57,7 @@ module _ {Self Operand : Type 0} (m : Meaning Self Operand) where
     exports = h.exports ∙ g.exports;
     arguments = h.arguments ∙ g.arguments;
     knows = λ types k. h.knows types (g.knows types k);
+    writes = λ types id k. h.writes types id (g.writes types id k);
     target = λ fn. h.target fn ∙ g.target fn;
     crosses = λ w fn. h.crosses w fn ∙ g.crosses w fn;
     known = λ w facts s k. h.known w facts s (g.known w facts s k);
@@ -65,6 +69,11 @@ module _ {Self Operand : Type 0} (m : Meaning Self Operand) where
   pub side_resumed : (a b : Self) (realloc : Bool) → Resumes m a b → IsSide m realloc a → IsSide m realloc b
   side_resumed a b true r h = r.exports ∙ h
   side_resumed a b false r h = r.imports ∙ h
+
+  -- and so does what may be written
+  pub part_resumed : (types : List TypeDef) (a b : Self) (p : Option WitType) → Resumes m a b → WritesPart m types p a → WritesPart m types p b
+  part_resumed types a b None r h = tt
+  part_resumed types a b (Some ty) r h = λ id reached. r.writes types id.0 (h id reached)
 
   pub side_opened : (a b : Self) (realloc : Bool) → Pushes m a b → IsSide m realloc a → IsSide m realloc b
   side_opened a b true p h = p.lasts.exports ∙ h
@@ -141,6 +150,7 @@ module _ {Self Operand : Type 0} (m : Meaning Self Operand) where
       exports = g.exports ∙ r.exports;
       arguments = g.arguments ∙ r.arguments;
       knows = λ types k. g.knows types (r.knows types k);
+      writes = λ types id k. g.writes types id (r.writes types id k);
       target = λ fn. g.target fn ∙ r.target fn;
       crosses = λ w fn. g.crosses w fn ∙ r.crosses w fn;
       opened = g.opened ∙ r.opened;
@@ -186,6 +196,7 @@ module _ {Self Operand : Type 0} (m : Meaning Self Operand) (sound : Sound m) (a
         exports = closes.lasts.exports ∙ adds.grows.exports ∙ opens.lasts.exports;
         arguments = closes.lasts.arguments ∙ adds.grows.arguments ∙ opens.lasts.arguments;
         knows = λ types k. closes.lasts.knows types (adds.grows.knows types (opens.lasts.knows types k));
+        writes = λ types id k. closes.lasts.writes types id (adds.grows.writes types id (opens.lasts.writes types id k));
         target = λ fn. closes.lasts.target fn ∙ adds.grows.target fn ∙ opens.lasts.target fn;
         crosses = λ w fn. closes.lasts.crosses w fn ∙ adds.grows.crosses w fn ∙ opens.lasts.crosses w fn;
         known = λ w facts s k. closes.lasts.known w facts s (adds.grows.known w facts s (opens.lasts.known w facts s k));

@@ -56,11 +56,11 @@ module _ {Self Operand : Type 0} (m : Meaning Self Operand) (sound : Sound m) (r
         subst (λ ps. AreFinished m b (payload_counts ps) (m.blocks b)) (sym (payloads_here r.types down id.0 k here h))
         (subst (AreFinished m b (reverse ks)) (sym blocks.adds.blocks) (finished_back m b ks blocks.bodies (m.blocks a) blocks.adds.many blocks.adds.finished))
 
-    pub variant_liftable : IsWellFormed r → (k : TypeDefKind) (o : Operand) → IsKindOf r.types id.0 k → has_cases k ≡ true → LiftsCases m (Cases_of k) (result_counts (payloads_of k)) (shared_slots r.types (payloads_of k)) os a b → IsSendable m r (case_lifting k id) (o ∷ []) b
-    variant_liftable well (kind.Variant members) o here h blocks = record { built = refl; operands = refl; suits = (members, here, finished_all (kind.Variant members) here h blocks, well) }
-    variant_liftable well (kind.Option ty) o here h blocks = record { built = refl; operands = refl; suits = (ty, here, finished_all (kind.Option ty) here h blocks, well) }
-    variant_liftable well (kind.Result ok err) o here h blocks = record { built = refl; operands = refl; suits = (ok, err, here, finished_all (kind.Result ok err) here h blocks, well) }
-    variant_liftable well _ o here h blocks = absurd cc
+    pub variant_liftable : IsWellFormed r → m.writes b r.types id.0 → (k : TypeDefKind) (o : Operand) → IsKindOf r.types id.0 k → has_cases k ≡ true → LiftsCases m (Cases_of k) (result_counts (payloads_of k)) (shared_slots r.types (payloads_of k)) os a b → IsSendable m r (case_lifting k id) (o ∷ []) b
+    variant_liftable well writes (kind.Variant members) o here h blocks = record { built = refl; operands = refl; suits = (members, here, finished_all (kind.Variant members) here h blocks, well, writes) }
+    variant_liftable well writes (kind.Option ty) o here h blocks = record { built = refl; operands = refl; suits = (ty, here, finished_all (kind.Option ty) here h blocks, well) }
+    variant_liftable well writes (kind.Result ok err) o here h blocks = record { built = refl; operands = refl; suits = (ok, err, here, finished_all (kind.Result ok err) here h blocks, well) }
+    variant_liftable well writes _ o here h blocks = absurd cc
 
     module _ (k : TypeDefKind) (c : Self) (o x : Operand) (here : IsKindOf r.types id.0 k) (has : has_cases k ≡ true) (enough : length os ≡ length (shared_slots r.types (payloads_of k)))
         (blocks : LiftsCases m (Cases_of k) (result_counts (payloads_of k)) (shared_slots r.types (payloads_of k)) os a b) where

@@ -12,6 +12,7 @@ ghost use Rattle.abi_bindgen.specs.Code.{call_code};
 ghost use Rattle.abi_bindgen.specs.Laws.{IsFresh};
 ghost use Rattle.abi_bindgen.specs.Sends.{Sends};
 ghost use Rattle.abi_bindgen.specs.Served.{ServesFunction};
+ghost use Rattle.abi_bindgen.specs.Written.{WritesFunction};
 ghost use Rattle.abi_driver.specs.Low.{IsSmallRecord};
 ghost use Rattle.abi_driver.specs.WholeCalls.{CallsFunction, HasArguments, IsServed, IsWay};
 
@@ -58,6 +59,7 @@ pub fn call<B: Bindgen>(
     requires side { IsServed B.meaning variant bindgen.old }
     requires knows { B.meaning.knows bindgen.old resolve.now.types }
     requires serves { ServesFunction resolve.now.types func.now }
+    requires writes { WritesFunction B.meaning resolve.now.types func.now bindgen.old }
     requires small { IsSmallRecord resolve.now.types (map (λ p. p.ty) func.now.params) }
     requires fresh { IsFresh B.meaning bindgen.old }
     requires arguments { HasArguments B.meaning resolve.now.types variant func.now bindgen.old }

@@ -6,7 +6,7 @@ pub(crate) mod leaf;
 pub(crate) mod variants;
 
 ghost use Rattle.std.specs.Prelude.{◌≡◌, ◌<◌, ◌≤◌, ◌+◌, ◌∷◌, ◌++◌, [], ℕ, IsTrue, List, Some, true, drop, length, IfOk, OnOk};
-ghost use Rattle.std.specs.List.{list_all};
+ghost use Rattle.std.specs.List.{AllByRecursion, list_all};
 ghost use Rattle.std.specs.Option.{option_map};
 ghost use Rattle.wit_model.specs.TypeOrder.{GoesDown, payload_below, type_below};
 ghost use Rattle.wit_model.specs.WellFormed.{IsWellFormed};
@@ -23,6 +23,7 @@ ghost use Rattle.abi_bindgen.specs.Sends.{Sends};
 ghost use Rattle.abi_bindgen.specs.Served.{Serves, ServesAll};
 ghost use Rattle.abi_bindgen.specs.SlotCasts.{FitIn};
 ghost use Rattle.abi_bindgen.specs.WordCount.{word_count, word_counts};
+ghost use Rattle.abi_bindgen.specs.Written.{Writes, WritesEach, WritesPart};
 
 use crate::lift::enums::lift_enum;
 use crate::lift::flags::lift_flags;
@@ -66,6 +67,7 @@ pub fn lift_flat<B: Bindgen>(
     requires down { GoesDown resolve.now.types }
     requires below { IsTrue (type_below (length resolve.now.types) ty.now) }
     requires serves { Serves (shape_of resolve.now.types ty.now) }
+    requires writes { Writes B.meaning resolve.now.types ty.now bindgen.old }
     requires few { length words.now ≤ 16 }
     requires exact { length words.now ≡ word_count resolve.now.types ty.now }
     ensures lifts { IfOk result (λ o. LiftsFlat B.meaning (shape_of resolve.now.types ty.now) words.now o bindgen.old bindgen.new) }
@@ -90,6 +92,7 @@ fn lift_type<B: Bindgen>(
     requires down { GoesDown resolve.now.types }
     requires below { IsTrue (type_below (length resolve.now.types) ty) }
     requires serves { Serves (shape_of resolve.now.types ty) }
+    requires writes { Writes B.meaning resolve.now.types ty bindgen.old }
     requires few { word_count resolve.now.types ty ≤ 16 }
     requires enough { at + word_count resolve.now.types ty ≤ length words.now }
     ensures next { IfOk result (λ r. r.next ≡ at + word_count resolve.now.types ty) }
@@ -121,6 +124,7 @@ fn lift_id<B: Bindgen>(
     requires down { GoesDown resolve.now.types }
     requires within { id.0 < length resolve.now.types }
     requires serves { Serves (shape_at resolve.now.types id.0) }
+    requires writes { Writes B.meaning resolve.now.types (Id id) bindgen.old }
     requires few { word_count resolve.now.types (Id id) ≤ 16 }
     requires enough { at + word_count resolve.now.types (Id id) ≤ length words.now }
     ensures next { IfOk result (λ r. r.next ≡ at + word_count resolve.now.types (Id id)) }
@@ -176,6 +180,7 @@ fn lift_variant<B: Bindgen>(
     requires here { IsKindOf resolve.now.types id.0 kind.now }
     requires cases { has_cases kind.now ≡ true }
     requires serves { Serves (shape_at resolve.now.types id.0) }
+    requires writes { Writes B.meaning resolve.now.types (Id id) bindgen.old }
     requires few { word_count resolve.now.types (Id id) ≤ 16 }
     requires enough { at + word_count resolve.now.types (Id id) ≤ length words.now }
     ensures next { IfOk result (λ r. r.next ≡ at + word_count resolve.now.types (Id id)) }
@@ -213,6 +218,7 @@ fn lift_cases<B: Bindgen>(
     requires within { id.0 < length resolve.now.types }
     requires below { list_all (λ payload. payload_below id.0 payload) payloads.now ≡ true }
     requires serves { ServesAll (payloads_in (shapes resolve.now.types) payloads.now) }
+    requires writes { AllByRecursion (λ p. WritesPart B.meaning resolve.now.types p bindgen.old) payloads.now }
     requires shared { slots.now ≡ shared_slots resolve.now.types payloads.now }
     requires few { length slots.now ≤ 16 }
     requires enough { length words.now ≡ length slots.now }
@@ -241,6 +247,7 @@ fn lift_case<B: Bindgen>(
     requires down { GoesDown resolve.now.types }
     requires below { IsTrue (payload_below (length resolve.now.types) payload) }
     requires serves { Serves (payload_in (shapes resolve.now.types) payload) }
+    requires writes { WritesPart B.meaning resolve.now.types payload bindgen.old }
     requires fits { FitIn (payload_words resolve.now.types payload) slots.now }
     requires few { length slots.now ≤ 16 }
     requires enough { length words.now ≡ length slots.now }
@@ -273,6 +280,7 @@ fn lift_payload<B: Bindgen>(
     requires down { GoesDown resolve.now.types }
     requires below { IsTrue (type_below (length resolve.now.types) ty) }
     requires serves { Serves (shape_of resolve.now.types ty) }
+    requires writes { Writes B.meaning resolve.now.types ty bindgen.old }
     requires fits { FitIn (payload_words resolve.now.types (Some ty)) slots.now }
     requires few { length slots.now ≤ 16 }
     requires enough { length words.now ≡ length slots.now }
@@ -308,6 +316,7 @@ fn lift_parts<B: Bindgen>(
     requires within { place ≤ length resolve.now.types }
     requires below { list_all (λ ty. type_below place ty) tys.now ≡ true }
     requires serves { ServesAll (shapes_of resolve.now.types tys.now) }
+    requires writes { WritesEach B.meaning resolve.now.types tys.now bindgen.old }
     requires few { word_counts resolve.now.types tys.now ≤ 16 }
     requires enough { at + word_counts resolve.now.types tys.now ≤ length words.now }
     ensures next { IfOk result (λ r. r.next ≡ at + word_counts resolve.now.types tys.now) }

@@ -1,2 +1,3 @@
 pub mod CanDefine
 pub mod InRange
+pub mod Written

@@ -86,6 +86,7 @@ noted_grows a b aligned = record {
   exports = refl;
   arguments = refl;
   knows = λ types h. h;
+  writes = λ types id h. h;
   target = λ f. refl;
   crosses = λ w f. refl;
   opened = refl;

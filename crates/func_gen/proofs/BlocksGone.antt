@@ -35,6 +35,7 @@ module _ (b : FunctionBindgen) (f : List FinishedBlock) where
     exports = g.exports;
     arguments = g.arguments;
     knows = g.knows;
+    writes = g.writes;
     target = g.target;
     crosses = λ w x. g.crosses w x;
     opened = g.opened;

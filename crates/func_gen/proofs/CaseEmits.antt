@@ -49,6 +49,7 @@ module _ (b : FunctionBindgen) (f : List FinishedBlock) (new : FunctionBindgen) 
     exports = h.exports;
     arguments = h.arguments;
     knows = h.knows;
+    writes = h.writes;
     target = h.target;
     crosses = h.crosses;
     opened = h.opened;

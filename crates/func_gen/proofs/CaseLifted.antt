@@ -1,9 +1,8 @@
 -- The rows of variants, options and results that are lifted.
-use Rattle.std.proofs.Common.{◌≡◌, ◌++◌, ◌||◌, suc, true, false, not, List, [], ◌∷◌, length, Option, None, Some, sym, ap, ◌∙◌, subst, arith}
+use Rattle.std.proofs.Common.{◌≡◌, ◌++◌, ◌||◌, suc, true, false, List, [], ◌∷◌, length, Option, None, Some, sym, ap, ◌∙◌, subst, arith}
 use Rattle.std.specs.Prelude.{codes}
-use Rattle.std.specs.List.{list_all}
 use Rattle.std.specs.Str.{bytes_eq}
-use Rattle.std.proofs.lemmas.Bool.{and_parts, not-true, or_parts}
+use Rattle.std.proofs.lemmas.Bool.{or_parts}
 use Rattle.std.proofs.lemmas.List.{length-append}
 use Rattle.wit_model.specs.Bytes.{Bytes}
 use Rattle.wit_model.specs.declared.name.TypeId.{TypeId}
@@ -18,7 +17,7 @@ use Rattle.abi_bindgen.specs.Cases.{payloads_at}
 use Rattle.abi_bindgen.specs.Instructions.{Emits}
 use Rattle.func_gen.specs.declared.case_form.CaseForm.{CaseForm}
 use Rattle.func_gen.specs.declared.function_bindgen.FunctionBindgen.{FunctionBindgen}
-use Rattle.func_gen.specs.CalledCases.{is_called, is_other_module}
+use Rattle.func_gen.specs.CalledCases.{is_other_module}
 use Rattle.func_gen.specs.CaseForms.{AreOptionForms, AreResultForms, AreVariantForms, member_form, member_forms, member_path, option_forms, side_form}
 use Rattle.func_gen.specs.Forms.{operand_of}
 use Rattle.func_gen.specs.LiftedCases.{LiftsBy, LiftsVariantBy}
@@ -27,11 +26,13 @@ use Rattle.func_gen.specs.Meaning.{func_meaning, setting_for}
 use Rattle.func_gen.specs.Operand.{is_operand}
 use Rattle.func_gen.specs.PartForms.{locals_of}
 use Rattle.func_gen.specs.TypeSites.{AreDefined}
+use Rattle.func_gen.specs.Written.{CanWrite}
 use Rattle.func_gen.proofs.CaseFits.{option_count, option_numbers, result_count, result_numbers}
 use Rattle.func_gen.proofs.CaseNames.{variant_count, variant_no_enum, variant_numbers}
 use Rattle.func_gen.proofs.CasePaths.{AllCall, CallsCase, NamesType, are_cases, case_called, err_called, none_called, ok_called, some_called}
 use Rattle.func_gen.proofs.LiftedCaseRows.{AreCases}
 use Rattle.func_gen.proofs.LiftedEmits.{option_lifted, result_lifted, variant_lifted}
+use Rattle.func_gen.proofs.WrittenVariants.{variant_typed}
 
 -- 1. What the paths of the cases call
 
@@ -57,20 +58,18 @@ names_type ty h =
     let three = or_parts (bytes_eq ty (codes "f32")) (bytes_eq ty (codes "f64")) two.1 in
     record { runtime = one.0; i64 = two.0; f32 = three.0; f64 = three.1 }
 
-module _ (w : Setting) (ty : Bytes) (other : is_enum w.items ty ≡ false) where
-  member_calls : (name : Bytes) → not (is_other_module ty) ≡ true → CallsCase w (member_path ty name)
-  member_calls name h = case_called w ty name (names_type ty (not-true (is_other_module ty) h)) other
+module _ (w : Setting) (ty : Bytes) (typed : is_other_module ty ≡ false) (other : is_enum w.items ty ≡ false) where
+  member_calls : (name : Bytes) → CallsCase w (member_path ty name)
+  member_calls name = case_called w ty name (names_type ty typed) other
 
-  form_calls : (name : Bytes) (payload : Option WitType) → is_called (member_form ty name payload) ≡ true → CallsCase w (case_path (member_form ty name payload))
-  form_calls name None h = member_calls name h
-  form_calls name (Some p) h = member_calls name h
+  form_calls : (name : Bytes) (payload : Option WitType) → CallsCase w (case_path (member_form ty name payload))
+  form_calls name None = member_calls name
+  form_calls name (Some p) = member_calls name
 
-  members_call : (names : List Bytes) (members : List Case) → list_all is_called (member_forms ty names members) ≡ true → AllCall w (member_forms ty names members)
-  members_call [] members h = tt
-  members_call (n ∷ names) [] h = tt
-  members_call (n ∷ names) (c ∷ members) h =
-      let two = and_parts (is_called (member_form ty n c.ty)) (list_all is_called (member_forms ty names members)) h in
-      (form_calls n c.ty two.0, members_call names members two.1)
+  members_call : (names : List Bytes) (members : List Case) → AllCall w (member_forms ty names members)
+  members_call [] members = tt
+  members_call (n ∷ names) [] = tt
+  members_call (n ∷ names) (c ∷ members) = (form_calls n c.ty, members_call names members)
 
 -- 2. Options and results
 
@@ -88,8 +87,8 @@ module _ (types : List TypeDef) (id : TypeId) (old new : FunctionBindgen) (forms
 -- 3. Variants
 
 module _ (types : List TypeDef) (id : TypeId) (old new : FunctionBindgen) (all forms : List CaseForm) (c : CaseForm) (e : Expr) (n v : Bytes) (l : LiftsVariantBy forms c e n v old new) (ok : is_operand e ≡ true) where
-  pub variant_made : AreVariantForms types old.sites id.0 all → all ≡ forms ++ c ∷ [] → list_all is_called all ≡ true → Emits func_meaning types (VariantLift id) (operand_of e ∷ []) (locals_of (v ∷ [])) old new
-  variant_made f split called =
+  pub variant_made : AreVariantForms types old.sites id.0 all → all ≡ forms ++ c ∷ [] → CanWrite types old.sites id.0 → Emits func_meaning types (VariantLift id) (operand_of e ∷ []) (locals_of (v ∷ [])) old new
+  variant_made f split can =
       variant_lifted types id forms c e n v old new l ok many
       (λ w p s.
       let sites = subst (AreDefined w.items) same s.sites in
@@ -103,4 +102,4 @@ module _ (types : List TypeDef) (id : TypeId) (old new : FunctionBindgen) (all f
       same = l.adds.sites ∙ ap (λ (b : FunctionBindgen). b.sites) l.uses.rest
 
       calls : (w : Setting) → is_enum w.items f.name ≡ false → AllCall w all
-      calls w other = subst (AllCall w) (sym f.are) (members_call w f.name other f.site.cases f.members (ap (list_all is_called) (sym f.are) ∙ called))
+      calls w other = subst (AllCall w) (sym f.are) (members_call w f.name (variant_typed types old.sites id.0 can all f) other f.site.cases f.members)

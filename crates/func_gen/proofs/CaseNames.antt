@@ -172,9 +172,11 @@ module _ (types : List TypeDef) (sites : List (Option TypeSite)) (id : ℕ) (for
   pub variant_fits : FitForms (case_shapes types id) forms
   variant_fits = subst (λ ts. FitForms ts forms) (sym (kind_shapes types id (kind.Variant f.members) f.kind)) (subst (FitForms (payloads_in (shapes types) (map (λ (c : Case). c.ty) f.members))) (sym f.are) (members_fit types f.name f.site.cases f.members f.many f.some))
 
+  pub each_formed : length forms ≡ length f.members
+  each_formed = ap length f.are ∙ members_count f.name f.site.cases f.members f.many
+
   pub variant_count : length (payloads_at types id) ≡ length forms
-  variant_count =
-      ap length (ap payloads_or f.kind.stands ∙ ap payloads_of f.kind.kind) ∙ length-map f.members (λ (c : Case). c.ty) ∙ sym (members_count f.name f.site.cases f.members f.many) ∙ ap length (sym f.are)
+  variant_count = ap length (ap payloads_or f.kind.stands ∙ ap payloads_of f.kind.kind) ∙ length-map f.members (λ (c : Case). c.ty) ∙ sym each_formed
 
   pub variant_low : length forms < 2 ^ 32
-  variant_low = let counted = ap length f.are ∙ members_count f.name f.site.cases f.members f.many in omega (arith, counted, f.low)
+  variant_low = omega (arith, each_formed, f.low)

@@ -52,6 +52,7 @@ module _ (os : List ExprOperand) (b : FunctionBindgen) where
     exports = refl;
     arguments = refl;
     knows = λ types h. h;
+    writes = λ types id h. h;
     target = λ f. refl;
     crosses = λ w f. refl;
     opened = refl;

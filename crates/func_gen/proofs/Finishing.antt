@@ -41,6 +41,7 @@ use Rattle.func_gen.specs.Opened.{open_blocks, slot_of}
 use Rattle.func_gen.specs.Resumes.{Resumes}
 use Rattle.func_gen.specs.Scope.{is_used}
 use Rattle.func_gen.specs.TypeSites.{AreDefined}
+use Rattle.func_gen.specs.Written.{CanWrite}
 use Rattle.func_gen.proofs.FinishedResults.{quiet_results, results_given}
 use Rattle.func_gen.proofs.Lasting.{area_lasts, denotes_on, lasts}
 use Rattle.func_gen.proofs.MethodRows.{both_empty, nothing_there}
@@ -139,6 +140,7 @@ module _ (os : List ExprOperand) (old new : FunctionBindgen) (a : Resumes os old
     exports = ap not a.still.import;
     arguments = ap (λ ps. Some (length ps)) a.still.params;
     knows = λ types h. subst (λ sizes. IsFilledFor sizes types) (sym a.still.sizes) h;
+    writes = λ types id h. subst (λ sites. CanWrite types sites id) (sym a.still.sites) h;
     target = λ f. ap₂ (λ import home. cond import (target.Core home f.name.wit) (target.Method home (rust_ident f.name))) a.still.import a.still.home;
     crosses = λ w f. refl;
     known = known;

@@ -1,5 +1,5 @@
 -- The rows of flags: the words of their bits, and flags of words.
-use Rattle.std.proofs.Common.{append-nil, ◌≡◌, ℕ, zero, suc, ◌+◌, ◌%◌, ◌^◌, ◌<◌, ◌≤◌, true, cond, List, [], ◌∷◌, ◌++◌, length, map, reverse, Option, None, Some, refl, sym, ap, ◌∙◌, subst, arith}
+use Rattle.std.proofs.Common.{append-nil, ◌≡◌, ℕ, zero, suc, ◌+◌, ◌/◌, ◌%◌, ◌^◌, ◌<◌, ◌≤◌, true, cond, min, List, [], ◌∷◌, ◌++◌, length, map, reverse, Option, None, Some, refl, sym, ap, ◌∙◌, subst, arith}
 use Rattle.std.specs.Prelude.{option_and_then, codes}
 use Rattle.std.specs.Option.{option_map}
 use Rattle.std.proofs.lemmas.Bool.{and_parts, eq-eqb}
@@ -20,7 +20,6 @@ use Rattle.rust_tree.specs.declared.repr.Repr.{Repr}
 use Rattle.rust_tree.specs.declared.stmt.Stmt.TheVariants as stmt
 use Rattle.wrapper_data.specs.declared.value.RustValue.{RustValue}
 use Rattle.wrapper_data.specs.declared.value.RustValue.TheVariants as value
-use Rattle.wrapper_data.specs.declared.value.RustValue.TheVariants.{rolls-Bits}
 use Rattle.wrapper_data.specs.declared.word.Word.{Word}
 use Rattle.wrapper_data.specs.declared.word.Word.TheVariants as core
 use Rattle.wrapper_meaning.specs.AsWords.{Says as Tells, flag_bits}
@@ -86,6 +85,12 @@ use Rattle.func_gen.proofs.Steps.{ran}
 -- there are four words at most
 pub words_fit : {types : List TypeDef} {sites : List (Option TypeSite)} {id n : ℕ} → HasWordCount types sites id n → n ≤ 4
 words_fit k = let within = k.is_site.within in let is = k.is in grind (arith)
+
+pub ceil_words : (n : ℕ) → n / 32 + min 1 (n % 32) ≡ flag_words n
+ceil_words n = grind (arith)
+
+pub words_many : (n : ℕ) → length (words_of_flags n) ≡ flag_words n
+words_many n = length-replicate (flag_words n) wasm.I32
 
 -- 2. Flags become words
 
@@ -156,7 +161,7 @@ flags_words_row types old new n id e s is_site ok a fresh one = record {
   asked = a.asked;
   form = form_by (sends (FlagsLower id)) (record { gives = refl; calls = refl }) (operand_of e ∷ []) old new (operands_of (words_of n 0 (flag_words s.members))) (lowers_flags e s) one.number (ap (option_map (lowers_flags e)) is_site.at) one.takes
       (subst (λ x. Appends old new (stmt.Let x e ∷ []) []) one.is a) (ap (λ x. operands_of (words_of x 0 (flag_words s.members))) one.is);
-  results = λ k is. many_words n 0 (flag_words s.members) ∙ ap flag_words (one_count types id.0 s.members k is_site.count is) ∙ sym (length-replicate (flag_words k) wasm.I32);
+  results = λ k is. many_words n 0 (flag_words s.members) ∙ ap flag_words (one_count types id.0 s.members k is_site.count is) ∙ sym (words_many k);
   row = λ k is. subst (λ m. LowersFlags func_meaning k (operand_of e ∷ []) (operands_of (words_of n 0 (flag_words m))) old new) (one_count types id.0 k s.members is is_site.count) (words_lowered old new n e ok a fresh k);
 }
 

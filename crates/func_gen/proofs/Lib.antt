@@ -46,6 +46,7 @@ pub mod Forming
 pub mod FreeRow
 pub mod FreedCaseRows
 pub mod InwardSteps
+pub mod KeptNames
 pub mod KeptOwners
 pub mod LastArm
 pub mod Lasting
@@ -95,3 +96,5 @@ pub mod TextRows
 pub mod TupleRows
 pub mod WholeLemmas
 pub mod Writing
+pub mod WrittenSites
+pub mod WrittenVariants

@@ -74,6 +74,7 @@ use Rattle.func_gen.specs.TypeSites.{AreDefined}
 use Rattle.func_gen.specs.Scope.{is_used, TakesOne}
 use Rattle.func_gen.specs.StandLemmas.{owned-unit}
 use Rattle.func_gen.specs.Formed.{CallsMethod}
+use Rattle.func_gen.specs.Written.{CanWrite}
 use Rattle.func_gen.proofs.Forming.{takes_none}
 use Rattle.func_gen.proofs.Lasting.{area_same, denotes_on, lasts, owns_with, still_free, with_local, within_with}
 use Rattle.func_gen.proofs.FieldOrder.{still_defined}
@@ -177,6 +178,7 @@ module _ (f : Function) (os : List ExprOperand) (held : Option Bytes) (old new :
       exports = ap not a.import;
       arguments = ap (λ ps. Some (length ps)) a.params;
       knows = λ types h. subst (λ sizes. IsFilledFor sizes types) (sym a.sizes) h;
+      writes = λ types id h. subst (λ sites. CanWrite types sites id) (sym a.sites) h;
       target = λ g. ap₂ (λ import home. if import then target.Core home g.name.wit else target.Method home (rust_ident g.name)) a.import a.home;
       crosses = λ w g. refl;
       opened = ap open_blocks a.opened;

@@ -50,6 +50,7 @@ use Rattle.func_gen.specs.Scope.{is_used}
 use Rattle.func_gen.specs.Slot.{Slot, block_names, slot_name}
 use Rattle.func_gen.specs.Suspends.{Suspends}
 use Rattle.func_gen.specs.TypeSites.{AreDefined}
+use Rattle.func_gen.specs.Written.{CanWrite}
 use Rattle.func_gen.proofs.CallRows.{declared_as, split_used}
 use Rattle.func_gen.proofs.Lasting.{denotes_on, lasts}
 use Rattle.func_gen.proofs.NameRows.{opened_more}
@@ -407,6 +408,7 @@ module _ (old new : FunctionBindgen) (a : Suspends old new) where
     exports = ap not a.still.import;
     arguments = ap (λ ps. Some (length ps)) a.still.params;
     knows = λ types h. subst (λ sizes. IsFilledFor sizes types) (sym a.still.sizes) h;
+    writes = λ types id h. subst (λ sites. CanWrite types sites id) (sym a.still.sites) h;
     target = λ f. ap₂ (λ import home. cond import (target.Core home f.name.wit) (target.Method home (rust_ident f.name))) a.still.import a.still.home;
     crosses = λ w f. refl;
     known = known;

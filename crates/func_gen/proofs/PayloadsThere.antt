@@ -1,8 +1,9 @@
--- In tables that the check passes, the payloads of the cases of a type are more than nothing, and a `u32` numbers the cases.
+-- In tables that the check passes, the payloads of the cases of a type are more than nothing, a variant has a case, and a `u32` numbers its cases.
 use Rattle.std.proofs.Common.{◌≡◌, ◌<◌, ◌^◌, ◌∙◌, ℕ, true, false, List, [], ◌∷◌, length, map, Option, None, Some, refl, ap, sym, arith}
 use Rattle.std.specs.List.{AllByRecursion, list_all}
 use Rattle.std.proofs.lemmas.Bool.{and_parts, ltb-true}
 use Rattle.std.proofs.lemmas.Option.{slice_get_within}
+use Rattle.wit_model.specs.Members.{has_members}
 use Rattle.wit_model.specs.Numbered.{is_short, kind_numbered}
 use Rattle.wit_model.specs.TypeOrder.{payload_below}
 use Rattle.wit_model.specs.WellFormed.{IsWellFormed}
@@ -12,7 +13,7 @@ use Rattle.wit_model.specs.declared.types.TypeDefKind.{TypeDefKind}
 use Rattle.wit_model.specs.declared.types.TypeDefKind.TheVariants as kind
 use Rattle.wit_model.specs.declared.types.WitType.{WitType}
 use Rattle.wit_model.proofs.BelowLemmas.{payload_below_more}
-use Rattle.wit_model.proofs.WellFormedLemmas.{types_go_down}
+use Rattle.wit_model.proofs.WellFormedLemmas.{has_members_at, types_go_down}
 use Rattle.wit_layout.proofs.FillSteps.{kind_short}
 use Rattle.wrapper_meaning.specs.Shape.{is_nothing, shape_of}
 use Rattle.abi_bindgen.specs.Cases.{payloads_of}
@@ -49,6 +50,11 @@ module _ (r : Resolve) (well : IsWellFormed r) where
 
   pub members_some : (id : ℕ) (members : List Case) → IsKindOf r.types id (kind.Variant members) → AllByRecursion (λ (c : Case). IsSome r.types c.ty) members
   members_some id members here = each_member members (payloads_some id (kind.Variant members) here refl)
+
+  pub members_there : (id : ℕ) (members : List Case) → IsKindOf r.types id (kind.Variant members) → 0 < length members
+  unfolding has_members
+  members_there id [] here = absurd (let none = sym (ap has_members here.kind) ∙ has_members_at r id here.entry well.unbroken here.stands in cc)
+  members_there id (c ∷ members) here = omega arith
 
   -- and it has fewer of them than there are numbers
   pub members_low : (id : ℕ) (members : List Case) → IsKindOf r.types id (kind.Variant members) → length members < 2 ^ 32

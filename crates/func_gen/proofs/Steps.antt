@@ -27,6 +27,7 @@ use Rattle.func_gen.specs.Opened.{open_blocks}
 use Rattle.func_gen.specs.Meaning.{AllAsCalled, Denote, File, Found, FuncState, GivesAsCalled, Serves, call_of, func_meaning, run_code, run_head, seen, setting_for, static_request}
 use Rattle.func_gen.specs.TypeSites.{AreDefined}
 use Rattle.func_gen.specs.Scope.{is_used}
+use Rattle.func_gen.specs.Written.{CanWrite}
 use Rattle.func_gen.proofs.FieldOrder.{still_defined}
 use Rattle.func_gen.proofs.Lasting.{denotes_on, lasts}
 use Rattle.func_gen.proofs.RuntimeItems.{found_left, gives_as_called, has_more, suspended_from}
@@ -140,6 +141,7 @@ module _ (old new : FunctionBindgen) (added : List Stmt) (items : List RuntimeIt
     exports = ap not a.import;
     arguments = ap (λ ps. Some (length ps)) a.params;
     knows = λ types h. subst (λ sizes. IsFilledFor sizes types) (sym a.sizes) h;
+    writes = λ types id h. subst (λ sites. CanWrite types sites id) (sym a.sites) h;
     target = λ f. ap₂ (λ import home. if import then target.Core home f.name.wit else target.Method home (rust_ident f.name)) a.import a.home;
     crosses = λ w f. refl;
   }

@@ -45,3 +45,4 @@ pub mod TextForms
 pub mod TypeSites
 pub mod Uses
 pub mod Whole
+pub mod Written

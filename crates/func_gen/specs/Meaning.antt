@@ -54,6 +54,7 @@ use Rattle.func_gen.specs.Read.{env_of}
 use Rattle.func_gen.specs.TypeSites.{AreDefined}
 use Rattle.func_gen.specs.Formed.{Formed}
 use Rattle.func_gen.specs.Slot.{Slot}
+use Rattle.func_gen.specs.Written.{CanWrite}
 
 -- 1. What is known of the whole
 
@@ -246,6 +247,7 @@ func_meaning = record {
   exports = λ b. not b.import;
   knows = λ b types. IsFilledFor b.sizes types;
   arguments = λ b. Some (length b.params);
+  writes = λ b types id. CanWrite types b.sites id;
   uncalled = IsUncalled;
   target = target_of;
   crosses = crossing;

@@ -5,7 +5,7 @@ ghost use Rattle.abi_bindgen.specs.Blocks.{IsOpen, Pushes};
 ghost use Rattle.abi_bindgen.specs.Instructions.{Emits};
 ghost use Rattle.func_gen.specs.Meaning.{func_meaning};
 ghost use Rattle.func_gen.specs.Opened.{innermost, stem_read};
-ghost use Rattle.func_gen.specs.Scope.{Takes};
+ghost use Rattle.func_gen.specs.Scope.{Keeps, Takes};
 ghost use Rattle.func_gen.specs.Slot.{block_names};
 ghost use Rattle.func_gen.specs.Suspends.{Suspends};
 
@@ -20,7 +20,8 @@ use wit_model::{List, OutOfMemory, Resolve};
 impl Scope {
     /// The number of the names of a block.
     fn declare_block(&mut self, alloc: Global) -> Result<u32, OutOfMemory>
-        ensures { IfOk result (λ k. Takes self.old block_names k self.new) }
+        ensures takes { IfOk result (λ k. Takes self.old block_names k self.new) }
+        ensures keeps { Keeps self.old.used self.new.used }
     {
         let element = LocalName {
             prefix: "e",

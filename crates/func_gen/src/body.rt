@@ -1,8 +1,7 @@
 //! The body of a wrapper, once its code was made.
 
-ghost use Rattle.std.specs.Prelude.{◌≡◌, ◌^◌, ◌≤◌, [], true, length, IfOk, IfSome};
+ghost use Rattle.std.specs.Prelude.{◌≡◌, ◌≤◌, [], true, length, IfSome};
 ghost use Rattle.std.specs.List.{AllByRecursion};
-ghost use Rattle.wit_model.specs.Size.{bytes_at};
 ghost use Rattle.func_gen.specs.Body.{Gives, IsBodyOf, greater, needed, tables_of};
 ghost use Rattle.func_gen.specs.Operand.{is_operand};
 ghost use Rattle.func_gen.specs.Whole.{IsSmall};
@@ -13,7 +12,7 @@ use crate::type_tables::TypeTables;
 use abi_bindgen::Asked;
 use rust_tree::{CallBlock, Expr, RuntimeItem, Stmt};
 use std::alloc::Global;
-use wit_model::{Alignment, ArchitectureSize, List, OutOfMemory};
+use wit_model::{Alignment, ArchitectureSize, List};
 
 /// What the body of a wrapper is.
 #[derive(Drop)]
@@ -47,7 +46,7 @@ impl FunctionBindgen {
             returned,
             ..
         } = self;
-        let area = area_for(asked.as_slice());
+        let area = needed_area(asked.as_slice());
         let tail = tail_of(returned);
         let Code { call, stmts } = code;
         let body = Body {
@@ -72,10 +71,11 @@ fn tail_of(returned: Option<List<ExprOperand>>) -> Option<Expr>
     Some(expr)
 }
 
-/// The area for all these records, of whose sizes each is one that a memory has.
-fn area_for(asked: &[Asked]) -> Option<Asked>
+/// The area for all these records, of whose sizes each is one that a memory has. So is its own.
+pub fn needed_area(asked: &[Asked]) -> Option<Asked>
     requires small { AllByRecursion IsSmall asked.now }
-    ensures { result ≡ needed asked.now }
+    ensures needed { result ≡ needed asked.now }
+    ensures small { IfSome result IsSmall }
 {
     if asked.is_empty() {
         return None;
@@ -93,18 +93,6 @@ fn area_for(asked: &[Asked]) -> Option<Asked>
     Some(area)
 }
 
-/// The area of a file, for those of its bodies. There is no memory also where one is of no size that a memory has.
-pub fn needed_area(asked: &[Asked]) -> Result<Option<Asked>, OutOfMemory>
-    ensures { IfOk result (λ area. area ≡ needed asked.now) }
-{
-    for record in asked {
-        if !is_small(&record.size) {
-            return Err(OutOfMemory);
-        }
-    }
-    Ok(area_for(asked))
-}
-
 /// The greater size and the greater alignment.
 fn greater(a: &Asked, b: &Asked) -> Asked
     requires first { IsSmall a.now }
@@ -115,11 +103,4 @@ fn greater(a: &Asked, b: &Asked) -> Asked
         size: a.size.max(&b.size),
         align: a.align.max(&b.align),
     }
-}
-
-/// Whether a size is at most 2^31 bytes where pointers have 8.
-fn is_small(size: &ArchitectureSize) -> bool
-    ensures { result ≡ true → bytes_at size.now 8 ≤ 2 ^ 31 }
-{
-    u128::from(size.bytes) + u128::from(size.pointers) * 8 <= 0x8000_0000
 }

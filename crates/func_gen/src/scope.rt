@@ -1,7 +1,7 @@
 //! The numbers of a wrapper's locals.
 
 ghost use Rattle.std.specs.Prelude.{◌≡◌, ◌+◌, ◌^◌, ◌<◌, ◌++◌, IfOk, OnOk};
-ghost use Rattle.func_gen.specs.Scope.{Declares, DeclaresAs, IsLeastFree, is_free, names_at, numbered};
+ghost use Rattle.func_gen.specs.Scope.{Declares, DeclaresAs, IsLeastFree, Keeps, is_free, names_at, numbered};
 
 use local_names::Names;
 use std::alloc::Global;
@@ -101,13 +101,16 @@ impl Scope {
         alloc: Global,
         names: &[LocalName<'_>],
     ) -> Result<u32, OutOfMemory>
-        ensures { IfOk result (λ t. Declares self.old names.now t self.new) }
+        ensures declares { IfOk result (λ t. Declares self.old names.now t self.new) }
+        ensures keeps { Keeps self.old.used self.new.used }
     {
         if names.is_empty() {
             return Ok(self.next);
         }
         let t = free_number(alloc, &self.used, self.next, names)?;
-        use_names(alloc, &mut self.used, names, t)?;
+        let mut used = self.used.share(alloc)?;
+        use_names(alloc, &mut used, names, t)?;
+        self.used = used;
         self.next = t + 1;
         Ok(t)
     }
@@ -118,7 +121,8 @@ impl Scope {
         alloc: Global,
         names: &[LocalName<'_>],
     ) -> Result<List<Text>, OutOfMemory>
-        ensures { IfOk result (λ texts. DeclaresAs self.old names.now texts self.new) }
+        ensures declares { IfOk result (λ texts. DeclaresAs self.old names.now texts self.new) }
+        ensures keeps { Keeps self.old.used self.new.used }
     {
         let t = self.declare(alloc, names)?;
         names_at(alloc, names, t)

@@ -281,6 +281,14 @@ module _ (opts : Opts) (r : Resolve) (world : World) (h : declares_well opts r w
   pub type_idents : list_all is_type_name (map type_name defined) ≡ true
   type_idents = sym (types-all (map type_name defined)) ∙ all-idents root root-types.0 _ root-types.1
 
+  -- none of them is the module of runtime items
+  pub apart_types : list_any (λ u. bytes_eq u runtime_ident) (map type_name defined) ≡ false
+  unfolding root-types in-parts
+  apart_types =
+      let itself : has Types runtime_ident root-types.0 ≡ true = or_left (bytes_eq runtime_ident runtime_ident) false ((bytes_eq-Decides runtime_ident runtime_ident).1 refl) in
+      sym (ap (list_any (λ u. bytes_eq u runtime_ident)) (types-in (map type_name defined))) ∙ among-them Types runtime_ident (all_declared WorldType (map type_name defined))
+      ∙ apart root Types runtime_ident root-types.0 (all_declared WorldType (map type_name defined)) root-types.1 itself
+
   pub field_idents : list_all (λ t. list_all is_ident (field_names t.kind)) defined ≡ true
   field_idents = fields-all defined scopes-clear.1
 

@@ -7,6 +7,7 @@ mod ItemLemmas
 mod KnownLemmas
 mod NamedLemmas
 mod OrderLemmas
+mod OwnNames
 mod PartsLemmas
 mod PartsOfBodies
 mod ResultLemmas

@@ -1,7 +1,7 @@
 -- What is written is a wrapper, seen from outside.
-use Rattle.std.proofs.Common.{Bool, true, false, List, [], ◌∷◌, Option, subst, sym}
-use Rattle.std.specs.Prelude.{option_to_list}
-use Rattle.std.specs.List.{AllZip}
+use Rattle.std.proofs.Common.{Bool, true, false, List, [], ◌∷◌, Option, None, Some, subst, sym}
+use Rattle.std.specs.Prelude.{IfSome, option_to_list}
+use Rattle.std.specs.List.{AllByRecursion, AllZip, flat_map}
 use Rattle.wit_model.specs.declared.function.Function.{Function}
 use Rattle.wit_model.specs.declared.name.WorldId.{WorldId}
 use Rattle.wit_model.specs.declared.resolve.Resolve.{Resolve}
@@ -20,14 +20,16 @@ use Rattle.wrapper_meaning.specs.Areas.{result_record}
 use Rattle.wrapper_meaning.specs.Shape.{result_shape}
 use Rattle.abi_bindgen.specs.Area.{AreFor}
 use Rattle.abi_bindgen.specs.declared.bindgen.Asked.{Asked}
+use Rattle.abi_bindgen.proofs.AllLemmas.{all_both}
 use Rattle.func_gen.specs.declared.type_site.TypeSite.{TypeSite}
+use Rattle.func_gen.specs.Whole.{IsSmall}
 use Rattle.type_sites.specs.Sites.{type_sites}
 use Rattle.wrapper_closing.specs.Declares.{DeclaresOne}
 use Rattle.wrapper_closing.specs.ImportBlock.{block_of}
 use Rattle.wrapper_closing.proofs.BodyAreas.{export_body_area_is_for}
 use Rattle.wrapper_closing.proofs.ImportDeclares.{import_body_declares}
 use Rattle.rust_gen.specs.Body.{ArePartsWritten, IsExportWritten, IsImportMade, IsReturnWritten, IsWritten, ReturnWritten}
-use Rattle.rust_gen.specs.Bound.{Binds, Parts}
+use Rattle.rust_gen.specs.Bound.{Binds, Parts, areas_of}
 use Rattle.rust_gen.specs.Wrapper.{HasReturn, Wraps, WrapsExport, WrapsParts, WrapsReturn, root_module}
 
 -- its body declares the core import of its function, and no other
@@ -56,6 +58,22 @@ area-for types sites f e a w =
     let for = export_body_area_is_for types w.made.func w.made.code.parts w.made.code.body w.made.code.makes in
     subst (λ a. AreFor (result_record (result_shape types f)) (option_to_list a)) (sym w.made.code.is.area)
     (subst (λ g. AreFor (result_record (result_shape types g)) (option_to_list w.made.code.body.area)) w.made.of for)
+
+-- and its size is one that a memory has
+area-small : (types : List TypeDef) (sites : List (Option TypeSite)) (f : Function) (e : ExportFn) (a : Option Asked) → IsExportWritten types sites f e a → AllByRecursion IsSmall (option_to_list a)
+area-small types sites f e a w =
+    subst (λ a. AllByRecursion IsSmall (option_to_list a)) (sym w.made.code.is.area) (go w.made.code.body.area w.made.code.makes.body_of.small)
+  where
+    go : (a : Option Asked) → IfSome a IsSmall → AllByRecursion IsSmall (option_to_list a)
+    go None h = tt
+    go (Some a) h = (h, tt)
+
+pub areas-small : (types : List TypeDef) (sites : List (Option TypeSite)) (fs : List Function) (es : List Parts) → AllZip (ArePartsWritten types sites) fs es → AllByRecursion IsSmall (flat_map option_to_list (areas_of es))
+areas-small types sites [] [] z = tt
+areas-small types sites [] (e ∷ es) z = absurd z
+areas-small types sites (f ∷ fs) [] z = absurd z
+areas-small types sites (f ∷ fs) (e ∷ es) z =
+    all_both IsSmall (option_to_list e.2) (flat_map option_to_list (areas_of es)) (area-small types sites f e.0 e.2 z.0.0) (areas-small types sites fs es z.1)
 
 wraps_parts : (types : List TypeDef) (sites : List (Option TypeSite)) (f : Function) (parts : Parts) → ArePartsWritten types sites f parts → WrapsParts types f parts
 wraps_parts types sites f parts w = (wraps_export types sites f parts.0 parts.2 w.0, go (needs_return types f) w.1, area-for types sites f parts.0 parts.2 w.0)

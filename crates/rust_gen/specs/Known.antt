@@ -18,6 +18,7 @@ use Rattle.type_defs.specs.declared.type_opts.TypeOpts.{TypeOpts}
 use Rattle.type_defs.specs.TypeNames.{are_type_names}
 use Rattle.type_sites.specs.Sites.{type_sites}
 use Rattle.type_defs.specs.Used.{UsesTypes}
+use Rattle.wrapper_closing.specs.Parts.{CanWriteFunction}
 use Rattle.gen_accept.specs.declared.opts.Opts.{Opts}
 use Rattle.gen_accept.specs.DeclaredNames.{declares_well, param_idents}
 use Rattle.gen_accept.specs.InRange.{AreInRange}
@@ -47,6 +48,10 @@ AreAtHand types (Some tables) = IsFilledFor tables.sizes types × CanBeDefined t
 abbrev pub sites_in : Option TypeTables → List (Option TypeSite)
 sites_in None = []
 sites_in (Some tables) = tables.sites
+
+-- by these sites, what each of these functions reaches can be written
+abbrev pub CanWriteFunctions : List TypeDef → List (Option TypeSite) → List Function → Type 0
+CanWriteFunctions types sites fs = (nth : ℕ) (f : Function) → slice_get fs nth ≡ Some f → CanWriteFunction types sites f
 
 -- the types of some world of this place can be defined, and items can define as they are written those that its functions use
 pub record CanWriteTypes (r : Resolve) (id : WorldId) : Type 0 where

@@ -8,6 +8,7 @@ ghost use Rattle.rust_tree.specs.Ident.{rust_ident};
 ghost use Rattle.gen_accept.specs.DeclaredNames.{guest_name};
 ghost use Rattle.wrapper_faithful.specs.Passed.{passed};
 ghost use Rattle.wrapper_closing.specs.Params.{arg_names, export_args, ret_area};
+ghost use Rattle.wrapper_closing.specs.Parts.{CanWriteFunction};
 ghost use Rattle.rust_gen.specs.Body.{AreExportParts, CallsMethodOf, IsCodeOf, IsExportCode, IsExportMade, IsExportOutside};
 ghost use Rattle.rust_gen.specs.Known.{AreAtHand, HasCode, sites_in};
 
@@ -91,6 +92,7 @@ fn export_code(
     requires well { IsWellFormed resolve.now }
     requires within { function_in_range resolve.now f.now ≡ true }
     requires code { HasCode resolve.now.types f.now }
+    requires writes { CanWriteFunction resolve.now.types (sites_in tables.old) f.now }
     requires tables { AreAtHand resolve.now.types tables.old }
     ensures made { IfOk result (IsExportCode resolve.now.types (sites_in tables.old) f.entry) }
     ensures kept { OnOk result (AreAtHand resolve.now.types tables.new) }
@@ -180,6 +182,7 @@ fn calling_code(
     requires well { IsWellFormed resolve.now }
     requires within { function_in_range resolve.now f.now ≡ true }
     requires code { HasCode resolve.now.types f.now }
+    requires writes { CanWriteFunction resolve.now.types (sites_in tables.old) f.now }
     requires tables { AreAtHand resolve.now.types tables.old }
     ensures code { IfOk result (IsExportCode resolve.now.types (sites_in tables.old) f.entry) }
     ensures calls { IfOk result (λ code. CallsMethodOf f.now code.call) }
@@ -212,6 +215,7 @@ pub(crate) fn export_wrapper(
     requires well { IsWellFormed resolve.now }
     requires within { function_in_range resolve.now f.now ≡ true }
     requires code { HasCode resolve.now.types f.now }
+    requires writes { CanWriteFunction resolve.now.types (sites_in tables.old) f.now }
     requires tables { AreAtHand resolve.now.types tables.old }
     ensures made { IfOk result (IsExportMade resolve.now.types (sites_in tables.old) f.now) }
     ensures kept { OnOk result (AreAtHand resolve.now.types tables.new) }

@@ -1,12 +1,13 @@
 //! The items by which a world exports its functions: the trait of their implementation, and the macros.
 
 ghost use Rattle.std.specs.Prelude.{◌≡◌, ◌++◌, true, IfOk, OnOk, map};
-ghost use Rattle.std.specs.List.{flat_map};
+ghost use Rattle.std.specs.List.{AllByRecursion, flat_map};
 ghost use Rattle.wit_model.specs.IndexRange.{function_in_range};
 ghost use Rattle.wit_model.specs.WellFormed.{IsWellFormed};
 ghost use Rattle.gen_accept.specs.DeclaredNames.{guest_name};
 ghost use Rattle.gen_accept.specs.Emitted.{exported_functions};
 ghost use Rattle.func_gen.specs.Body.{needed};
+ghost use Rattle.func_gen.specs.Whole.{IsSmall};
 ghost use Rattle.wrapper_closing.specs.FileArea.{static_area};
 ghost use Rattle.rust_gen.specs.Bound.{area_items};
 ghost use Rattle.rust_gen.specs.Exported.{entries_of, export_entry, file_macro, guest_trait, last_macro, macro_name, post_return_name, return_entry, trait_and_macro, trait_fn, trait_param, world_macro};
@@ -233,12 +234,12 @@ fn static_area(area: Option<Asked>) -> Option<StaticArea>
     }
 }
 
-/// Puts the static area for these areas of exported functions behind other items, if there are any. There is no memory also where it is of no
-/// size that a memory has.
+/// Puts the static area for these areas of exported functions behind other items, if there are any.
 pub(crate) fn push_area(items: &mut List<Item>, areas: &[Asked]) -> Result<(), OutOfMemory>
+    requires small { AllByRecursion IsSmall areas.now }
     ensures { OnOk result (items.new ≡ items.old ++ area_items (static_area (needed areas.now))) }
 {
-    match static_area(needed_area(areas)?) {
+    match static_area(needed_area(areas)) {
         None => Ok(()),
         Some(area) => items.push(Item::Area(area)),
     }

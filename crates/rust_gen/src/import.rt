@@ -8,6 +8,7 @@ ghost use Rattle.rust_tree.specs.Asked.{asked_by_signature, asked_in};
 ghost use Rattle.gen_accept.specs.DeclaredNames.{param_idents};
 ghost use Rattle.type_defs.specs.ParamType.{HasFacts};
 ghost use Rattle.type_defs.specs.PartType.{printed_result};
+ghost use Rattle.wrapper_closing.specs.Parts.{CanWriteFunction};
 ghost use Rattle.rust_gen.specs.Body.{AreImportParts, IsImportCode, IsImportHead, IsImportMade};
 ghost use Rattle.rust_gen.specs.FixedName.{IsFixedName};
 ghost use Rattle.rust_gen.specs.Known.{AreAtHand, HasCode, sites_in};
@@ -87,6 +88,7 @@ fn import_code(
     requires well { IsWellFormed resolve.now }
     requires within { function_in_range resolve.now f.now ≡ true }
     requires code { HasCode resolve.now.types f.now }
+    requires writes { CanWriteFunction resolve.now.types (sites_in tables.old) f.now }
     requires distinct { is_distinct (param_idents f.now) ≡ true }
     requires tables { AreAtHand resolve.now.types tables.old }
     ensures made { IfOk result (λ made. IsImportCode resolve.now.types (sites_in tables.old) f.entry made.0 made.1) }
@@ -168,6 +170,7 @@ pub(crate) fn import_wrapper(
     requires well { IsWellFormed resolve.now }
     requires within { function_in_range resolve.now f.now ≡ true }
     requires code { HasCode resolve.now.types f.now }
+    requires writes { CanWriteFunction resolve.now.types (sites_in tables.old) f.now }
     requires distinct { is_distinct (param_idents f.now) ≡ true }
     requires tables { AreAtHand resolve.now.types tables.old }
     requires facts { HasFacts resolve.now facts.now }

@@ -19,9 +19,10 @@ ghost use Rattle.type_defs.specs.Levels.{are_shallow};
 ghost use Rattle.type_defs.specs.ParamType.{HasFacts};
 ghost use Rattle.type_defs.specs.PartType.{printed_result};
 ghost use Rattle.type_sites.specs.Sites.{type_sites};
+ghost use Rattle.wrapper_closing.specs.Parts.{CanWriteFunction};
 ghost use Rattle.rust_gen.specs.Asking.{ExportAsks, ImportAsks, ReturnAsks, WrapperAsks, asked_with, bare};
 ghost use Rattle.rust_gen.specs.Bound.{Parts, areas_of, export_items, return_items};
-ghost use Rattle.rust_gen.specs.Known.{AreAtHand, CanWriteTypes, HasCode, HaveCode, HaveDistinctParams, sites_in};
+ghost use Rattle.rust_gen.specs.Known.{AreAtHand, CanWriteFunctions, CanWriteTypes, HasCode, HaveCode, HaveDistinctParams, sites_in};
 ghost use Rattle.rust_gen.specs.Wrapper.{printed_param};
 
 use crate::export::{ExportMade, export_wrapper};
@@ -68,6 +69,7 @@ fn push_import(
     requires well { IsWellFormed resolve.now }
     requires within { function_in_range resolve.now f.now ≡ true }
     requires code { HasCode resolve.now.types f.now }
+    requires writes { CanWriteFunction resolve.now.types (sites_in tables.old) f.now }
     requires distinct { is_distinct (param_idents f.now) ≡ true }
     requires facts { HasFacts resolve.now facts.now }
     requires tables { AreAtHand resolve.now.types tables.old }
@@ -97,6 +99,7 @@ fn push_imports(
     requires well { IsWellFormed resolve.now }
     requires within { AreInRange resolve.now (map (λ f. f.now) functions.now) }
     requires code { HaveCode resolve.now.types (map (λ f. f.now) functions.now) }
+    requires writes { CanWriteFunctions resolve.now.types (sites_in tables.old) (map (λ f. f.now) functions.now) }
     requires distinct { HaveDistinctParams (map (λ f. f.now) functions.now) }
     requires facts { HasFacts resolve.now facts.now }
     requires tables { AreAtHand resolve.now.types tables.old }
@@ -124,6 +127,7 @@ fn push_wrapper(
     requires well { IsWellFormed resolve.now }
     requires within { function_in_range resolve.now f.now ≡ true }
     requires code { HasCode resolve.now.types f.now }
+    requires writes { CanWriteFunction resolve.now.types (sites_in tables.old) f.now }
     requires tables { AreAtHand resolve.now.types tables.old }
     ensures made { IfOk result
         (λ area. (e : ExportFn × List RuntimeItem) × (items.new ≡ items.old ++ item.Export e.0 ∷ []) × (asked.new ≡ asked.old ++ e.1) × WrapperAsks resolve.now.types (sites_in tables.old) f.now e.0 area e.1) }
@@ -217,6 +221,7 @@ fn push_export(
     requires well { IsWellFormed resolve.now }
     requires within { function_in_range resolve.now f.now ≡ true }
     requires code { HasCode resolve.now.types f.now }
+    requires writes { CanWriteFunction resolve.now.types (sites_in tables.old) f.now }
     requires tables { AreAtHand resolve.now.types tables.old }
     ensures made { OnOk result
         ((e : Parts × List RuntimeItem) × (items.new ≡ items.old ++ export_items e.0) × (areas.new ≡ areas.old ++ option_to_list e.0.2) × (asked.new ≡ asked.old ++ e.1) × ExportAsks resolve.now.types (sites_in tables.old) f.now e) }
@@ -241,6 +246,7 @@ fn push_exports(
     requires well { IsWellFormed resolve.now }
     requires within { AreInRange resolve.now (map (λ f. f.now) functions.now) }
     requires code { HaveCode resolve.now.types (map (λ f. f.now) functions.now) }
+    requires writes { CanWriteFunctions resolve.now.types (sites_in tables.old) (map (λ f. f.now) functions.now) }
     requires tables { AreAtHand resolve.now.types tables.old }
     ensures made { IfOk result
         (λ areas. (es : List (Parts × List RuntimeItem)) × (items.new ≡ items.old ++ flat_map export_items (bare es)) × (areas ≡ flat_map option_to_list (areas_of (bare es))) × (asked.new ≡ asked.old ++ asked_with es) × AllZip (ExportAsks resolve.now.types (sites_in tables.old)) (map (λ f. f.now) functions.now) es) }
@@ -271,9 +277,11 @@ pub(crate) fn push_wrappers(
     requires types { CanWriteTypes resolve.now id }
     requires imports { AreInRange resolve.now (imported_functions world.now) }
     requires imports_code { HaveCode resolve.now.types (imported_functions world.now) }
+    requires imports_write { CanWriteFunctions resolve.now.types (type_sites resolve.now world.now) (imported_functions world.now) }
     requires distinct { HaveDistinctParams (imported_functions world.now) }
     requires within { AreInRange resolve.now (map (λ f. f.now) exports.now) }
     requires exports_code { HaveCode resolve.now.types (map (λ f. f.now) exports.now) }
+    requires exports_write { CanWriteFunctions resolve.now.types (type_sites resolve.now world.now) (map (λ f. f.now) exports.now) }
     ensures { IfOk result
         (λ areas. (is : List (FnItem × List RuntimeItem)) × (es : List (Parts × List RuntimeItem)) × (items.new ≡ (items.old ++ map item.Import (bare is)) ++ flat_map export_items (bare es)) × (areas ≡ flat_map option_to_list (areas_of (bare es))) × (asked.new ≡ (asked.old ++ asked_with is) ++ asked_with es) × AllZip (ImportAsks resolve.now.types (type_sites resolve.now world.now)) (imported_functions world.now) is × AllZip (ExportAsks resolve.now.types (type_sites resolve.now world.now)) (map (λ f. f.now) exports.now) es) }
 {

@@ -69,7 +69,7 @@ mapped-fields (f ∷ members) zero ty e = let is : f.ty ≡ ty = cc in ap (λ ty
 mapped-fields (f ∷ members) (suc nth) ty e = mapped-fields members nth ty e
 
 -- a flags type is held by as many bits as its values have
-flags-held : (n : ℕ) → repr_bits (flags_repr n) ≡ flags_width n
+pub flags-held : (n : ℕ) → repr_bits (flags_repr n) ≡ flags_width n
 flags-held n = go (nat_le n 8) (nat_le n 16) (nat_le n 32) (nat_le n 64)
   where
     go : (a b c d : Bool) → repr_bits (cond a repr.U8 (cond b repr.U16 (cond c repr.U32 (cond d repr.U64 repr.U128)))) ≡ cond a 8 (cond b 16 (cond c 32 (cond d 64 128)))

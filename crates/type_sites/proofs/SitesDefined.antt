@@ -46,7 +46,7 @@ use Rattle.type_sites.proofs.Definitions.{IsDefinedIn, count, definition-of}
 use Rattle.type_sites.proofs.SiteLemmas.{unnamed-site}
 
 -- what holds of each entry that some ids name, where they are wanted, holds of one of them
-wanted-passes : (test : TypeDef → Bool) (types : List TypeDef) (wanted : ℕ → Bool) (ids : List TypeId) (n : ℕ) (t : TypeDef) → list_all test (flat_map (entry_at types) (filter (λ id. wanted id.0) ids)) ≡ true
+pub wanted-passes : (test : TypeDef → Bool) (types : List TypeDef) (wanted : ℕ → Bool) (ids : List TypeId) (n : ℕ) (t : TypeDef) → list_all test (flat_map (entry_at types) (filter (λ id. wanted id.0) ids)) ≡ true
     → lists ids n ≡ true → wanted n ≡ true → slice_get types n ≡ Some t → test t ≡ true
 wanted-passes test types wanted [] n t h l want at = absurd (cc)
 wanted-passes test types wanted (i ∷ ids) n t h l want at = go (wanted i.0) refl (nat_eq i.0 n) refl l (λ h l. wanted-passes test types wanted ids n t h l want at)
@@ -68,22 +68,27 @@ wanted-passes test types wanted (i ∷ ids) n t h l want at = go (wanted i.0) re
         let both = and_parts (list_all test (entry_at types i)) (list_all test rest) (sym (list_all-append test (entry_at types i) rest) ∙ all true e) in
         further both.1 (sym (ap (λ b. b || lists ids n) same) ∙ l)
 
-module _ (opts : TypeOpts) (r : Resolve) (w : WorldId) (world : World) (defs : List TypeItem) (rest : List Item) (d : AreDefinable opts r w world) (are : AreDefinitions opts r w world defs) where
-  abbrev items : List Item
-  items = file_of defs rest
-
+module _ (opts : TypeOpts) (r : Resolve) (w : WorldId) (world : World) (d : AreDefinable opts r w world) where
   -- what a function uses is listed, if it has a name
-  used-listed : (id : TypeId) (t : TypeDef) (name : Name) → uses r world id.0 ≡ true → slice_get r.types id.0 ≡ Some t → t.name ≡ Some name → lists (listed_types world) id.0 ≡ true
+  pub used-listed : (id : TypeId) (t : TypeDef) (name : Name) → uses r world id.0 ≡ true → slice_get r.types id.0 ≡ Some t → t.name ≡ Some name → lists (listed_types world) id.0 ≡ true
   used-listed id t name used at named =
       let from = uses_reached r world id d.shallow used in
       d.covered from.root from.is_root id t from.reached at (ap (λ n. is_some n) named)
 
+  -- and defined
+  pub used-wanted : (id : ℕ) → uses r world id ≡ true → is_wanted_at opts r world id ≡ true
+  used-wanted id used = or_right (is_always_entry (slice_get r.types id)) (uses r world id || opts.generate_unused_types) (or_left (uses r world id) opts.generate_unused_types used)
+
+module _ (opts : TypeOpts) (r : Resolve) (w : WorldId) (world : World) (defs : List TypeItem) (rest : List Item) (d : AreDefinable opts r w world) (are : AreDefinitions opts r w world defs) where
+  abbrev items : List Item
+  items = file_of defs rest
+
   module _ (id : TypeId) (t : TypeDef) (name : Name) (used : uses r world id.0 ≡ true) (at : slice_get r.types id.0 ≡ Some t) (named : t.name ≡ Some name) where
     listed : lists (listed_types world) id.0 ≡ true
-    listed = used-listed id t name used at named
+    listed = used-listed opts r w world d id t name used at named
 
     wanted : is_wanted_at opts r world id.0 ≡ true
-    wanted = or_right (is_always_entry (slice_get r.types id.0)) (uses r world id.0 || opts.generate_unused_types) (or_left (uses r world id.0) opts.generate_unused_types used)
+    wanted = used-wanted opts r w world d id.0 used
 
     definition : IsDefinedIn r.types items (count opts r w world d defs are rest) id.0 t (type_ident name)
     definition = definition-of opts r w world d defs are rest id.0 t name listed wanted at named

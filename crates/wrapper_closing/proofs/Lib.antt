@@ -47,3 +47,4 @@ pub mod TypedCases
 pub mod Unasking
 pub mod Undeclared
 pub mod Unplaced
+pub mod WrittenParts

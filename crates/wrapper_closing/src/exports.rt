@@ -7,7 +7,7 @@ ghost use Rattle.abi_driver.specs.Low.{IsSmallRecord};
 ghost use Rattle.wit_model.specs.IndexRange.{function_in_range};
 ghost use Rattle.wit_model.specs.WellFormed.{IsWellFormed};
 ghost use Rattle.wrapper_closing.specs.Bodies.{MakesExport};
-ghost use Rattle.wrapper_closing.specs.Parts.{AreParts, tables_of};
+ghost use Rattle.wrapper_closing.specs.Parts.{AreParts, CanWriteFunction, tables_of};
 
 use crate::parts::{BodyParts, begin};
 use abi_driver::{LiftLower, call};
@@ -29,6 +29,7 @@ pub fn export_body(
     requires serves { ServesFunction resolve.now.types func.now }
     requires small { IsSmallRecord resolve.now.types (map (λ p. p.ty) func.now.params) }
     requires parts { AreParts resolve.now.types parts }
+    requires writes { CanWriteFunction resolve.now.types parts.sites func.now }
     requires many { length parts.params ≡ length (export_params resolve.now.types func.now) }
     ensures makes { IfOk result (λ made. MakesExport resolve.now.types func.entry parts made.0) }
     ensures tables { IfOk result (λ made. made.1 ≡ tables_of parts) }

@@ -35,6 +35,7 @@ ghost use Rattle.abi_bindgen.specs.Lowers.{LowersAnswer};
 ghost use Rattle.abi_bindgen.specs.Sends.{Sends};
 ghost use Rattle.abi_bindgen.specs.Served.{Serves, ServesAll, ServesFunction, ServesResult};
 ghost use Rattle.abi_bindgen.specs.WordCount.{word_count};
+ghost use Rattle.abi_bindgen.specs.Written.{Writes, WritesEach, WritesFunction, WritesPart};
 ghost use Rattle.abi_driver.specs.Low.{IsSmallRecord};
 
 use crate::calls::area::point_at;
@@ -60,6 +61,7 @@ pub(super) fn call_export<B: Bindgen>(
     requires knows { B.meaning.knows bindgen.old resolve.now.types }
     requires arguments { IsCount B.meaning (B.meaning.arguments bindgen.old) (length (export_params resolve.now.types func.now)) }
     requires serves { ServesFunction resolve.now.types func.now }
+    requires writes { WritesFunction B.meaning resolve.now.types func.now bindgen.old }
     requires small { IsSmallRecord resolve.now.types (map (λ p. p.ty) func.now.params) }
     requires fresh { IsFresh B.meaning bindgen.old }
     ensures calls { OnOk result (CallsExport B.meaning func.now (param_shapes resolve.now.types func.now) (result_shape resolve.now.types func.now) bindgen.old bindgen.new) }
@@ -110,6 +112,7 @@ fn take_arguments<B: Bindgen>(
     requires arguments { IsCount B.meaning (B.meaning.arguments bindgen.old) (length (argument_words (shapes_of resolve.now.types tys.now))) }
     requires indirect { indirect ≡ are_indirect (shapes_of resolve.now.types tys.now) }
     requires serves { ServesAll (shapes_of resolve.now.types tys.now) }
+    requires writes { WritesEach B.meaning resolve.now.types tys.now bindgen.old }
     requires small { IsSmallRecord resolve.now.types tys.now }
     requires few { length tys.now < 2 ^ 32 }
     ensures takes { IfOk result (λ values. TakesArgumentsOver B.meaning (shapes_of resolve.now.types tys.now) values bindgen.old bindgen.new) }
@@ -135,6 +138,7 @@ fn lift_arguments<B: Bindgen>(
     requires direct { are_indirect (shapes_of resolve.now.types tys.now) ≡ false }
     requires arguments { IsCount B.meaning (B.meaning.arguments bindgen.old) (length (param_words (shapes_of resolve.now.types tys.now))) }
     requires serves { ServesAll (shapes_of resolve.now.types tys.now) }
+    requires writes { WritesEach B.meaning resolve.now.types tys.now bindgen.old }
     ensures lifts { IfOk result (λ values. LiftsArguments B.meaning (shapes_of resolve.now.types tys.now) 0 values bindgen.old bindgen.new) }
     ensures sends { OnOk result (Sends B.meaning resolve.now.types (code.lift_arguments resolve.now.types 0 tys.now) bindgen.old bindgen.new) }
 {
@@ -190,6 +194,7 @@ fn give_answer<B: Bindgen>(
     requires due { length answer.now ≡ length (option_to_list ty) }
     requires retptr { retptr ≡ is_indirect (option_map (shape_of resolve.now.types) ty) }
     requires serves { ServesResult (option_map (shape_of resolve.now.types) ty) }
+    requires writes { WritesPart B.meaning resolve.now.types ty bindgen.old }
     requires closed { B.meaning.opened bindgen.old ≡ [] }
     ensures gives { IfOk result (λ given. GivesAnswer B.meaning (option_map (shape_of resolve.now.types) ty) answer.now given bindgen.old bindgen.new) }
     ensures sends { OnOk result (Sends B.meaning resolve.now.types (give_code resolve.now.types ty) bindgen.old bindgen.new) }
@@ -215,6 +220,7 @@ fn lower_answer<B: Bindgen>(
     requires side { B.meaning.exports bindgen.old ≡ true }
     requires due { length answer.now ≡ 1 }
     requires serves { Serves (shape_of resolve.now.types ty) }
+    requires writes { Writes B.meaning resolve.now.types ty bindgen.old }
     requires few { word_count resolve.now.types ty ≤ 16 }
     ensures lowers { IfOk result (λ given. LowersAnswer B.meaning (Some (shape_of resolve.now.types ty)) answer.now given bindgen.old bindgen.new) }
     ensures sends { OnOk result (Sends B.meaning resolve.now.types (lower_code resolve.now.types true ty) bindgen.old bindgen.new) }
@@ -239,6 +245,7 @@ fn store_answer<B: Bindgen>(
     requires knows { B.meaning.knows bindgen.old resolve.now.types }
     requires due { length answer.now ≡ 1 }
     requires serves { Serves (shape_of resolve.now.types ty) }
+    requires writes { Writes B.meaning resolve.now.types ty bindgen.old }
     requires closed { B.meaning.opened bindgen.old ≡ [] }
     ensures stores { IfOk result (λ given. StoresAnswer B.meaning (shape_of resolve.now.types ty) answer.now given bindgen.old bindgen.new) }
     ensures sends { OnOk result (Sends B.meaning resolve.now.types (ask_for (shape_of resolve.now.types ty) ++ store_code resolve.now.types true ty nowhere) bindgen.old bindgen.new) }

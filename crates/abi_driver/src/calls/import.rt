@@ -25,6 +25,7 @@ ghost use Rattle.abi_bindgen.specs.Lowers.{LowersArguments};
 ghost use Rattle.abi_bindgen.specs.Sends.{Sends};
 ghost use Rattle.abi_bindgen.specs.Served.{Serves, ServesAll, ServesFunction, ServesResult};
 ghost use Rattle.abi_bindgen.specs.WordCount.{word_count};
+ghost use Rattle.abi_bindgen.specs.Written.{Writes, WritesEach, WritesFunction, WritesPart};
 ghost use Rattle.abi_driver.specs.Low.{IsSmallRecord};
 
 use crate::calls::area::{point_at, store_arguments};
@@ -50,6 +51,7 @@ pub(super) fn call_import<B: Bindgen>(
     requires knows { B.meaning.knows bindgen.old resolve.now.types }
     requires arguments { IsCount B.meaning (B.meaning.arguments bindgen.old) (length func.now.params) }
     requires serves { ServesFunction resolve.now.types func.now }
+    requires writes { WritesFunction B.meaning resolve.now.types func.now bindgen.old }
     requires small { IsSmallRecord resolve.now.types (map (λ p. p.ty) func.now.params) }
     requires closed { B.meaning.opened bindgen.old ≡ [] }
     ensures calls { OnOk result (CallsImport B.meaning func.now (param_shapes resolve.now.types func.now) (result_shape resolve.now.types func.now) bindgen.old bindgen.new) }
@@ -103,6 +105,7 @@ fn pass_arguments<B: Bindgen>(
     requires arguments { IsCount B.meaning (B.meaning.arguments bindgen.old) (length tys.now) }
     requires indirect { indirect ≡ are_indirect (shapes_of resolve.now.types tys.now) }
     requires serves { ServesAll (shapes_of resolve.now.types tys.now) }
+    requires writes { WritesEach B.meaning resolve.now.types tys.now bindgen.old }
     requires small { IsSmallRecord resolve.now.types tys.now }
     requires few { length tys.now < 2 ^ 32 }
     requires closed { B.meaning.opened bindgen.old ≡ [] }
@@ -131,6 +134,7 @@ fn lower_arguments<B: Bindgen>(
     requires side { B.meaning.imports bindgen.old ≡ true }
     requires arguments { IsCount B.meaning (B.meaning.arguments bindgen.old) (length tys.now) }
     requires serves { ServesAll (shapes_of resolve.now.types tys.now) }
+    requires writes { WritesEach B.meaning resolve.now.types tys.now bindgen.old }
     requires few { length tys.now < 2 ^ 32 }
     requires direct { are_indirect (shapes_of resolve.now.types tys.now) ≡ false }
     ensures lowers { IfOk result (λ os. LowersArguments B.meaning false (shapes_of resolve.now.types tys.now) 0 os bindgen.old bindgen.new) }
@@ -189,6 +193,7 @@ fn read_answer<B: Bindgen>(
     requires pointed { retptr ≡ true → length pointer.now ≡ 1 }
     requires answered { retptr ≡ false → length words.now ≡ length (result_words (option_map (shape_of resolve.now.types) ty)) }
     requires serves { ServesResult (option_map (shape_of resolve.now.types) ty) }
+    requires writes { WritesPart B.meaning resolve.now.types ty bindgen.old }
     ensures reads { IfOk result (λ given. ReadsAnswer B.meaning (option_map (shape_of resolve.now.types) ty) pointer.now words.now given bindgen.old bindgen.new) }
     ensures sends { OnOk result (Sends B.meaning resolve.now.types (read_code resolve.now.types ty) bindgen.old bindgen.new) }
 {
@@ -213,6 +218,7 @@ fn load_answer<B: Bindgen>(
     requires knows { B.meaning.knows bindgen.old resolve.now.types }
     requires pointed { length pointer.now ≡ 1 }
     requires serves { Serves (shape_of resolve.now.types ty) }
+    requires writes { Writes B.meaning resolve.now.types ty bindgen.old }
     ensures loads { IfOk result (λ given. LoadsAnswer B.meaning (shape_of resolve.now.types ty) pointer.now given bindgen.old bindgen.new) }
     ensures sends { OnOk result (Sends B.meaning resolve.now.types (load_code resolve.now.types ty nowhere) bindgen.old bindgen.new) }
 {
@@ -235,6 +241,7 @@ fn lift_answer<B: Bindgen>(
     requires few { length words.now ≤ 16 }
     requires exact { length words.now ≡ word_count resolve.now.types ty }
     requires serves { Serves (shape_of resolve.now.types ty) }
+    requires writes { Writes B.meaning resolve.now.types ty bindgen.old }
     ensures lifts { IfOk result (λ given. LiftsAnswer B.meaning (Some (shape_of resolve.now.types ty)) words.now given bindgen.old bindgen.new) }
     ensures sends { OnOk result (Sends B.meaning resolve.now.types (lift_code resolve.now.types ty) bindgen.old bindgen.new) }
 {

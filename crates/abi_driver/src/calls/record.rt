@@ -13,6 +13,7 @@ ghost use Rattle.abi_bindgen.specs.Instructions.{shapes_of};
 ghost use Rattle.abi_driver.specs.Loads.{LoadsParts};
 ghost use Rattle.abi_bindgen.specs.Sends.{Sends};
 ghost use Rattle.abi_bindgen.specs.Served.{ServesAll};
+ghost use Rattle.abi_bindgen.specs.Written.{WritesEach};
 ghost use Rattle.abi_driver.specs.Low.{IsSmallRecord};
 
 use crate::dealloc::places::record_places;
@@ -34,6 +35,7 @@ pub(super) fn load_arguments<B: Bindgen>(
     requires knows { B.meaning.knows bindgen.old resolve.now.types }
     requires arguments { IfSome (B.meaning.arguments bindgen.old) (λ k. 0 < k) }
     requires serves { ServesAll (shapes_of resolve.now.types tys.now) }
+    requires writes { WritesEach B.meaning resolve.now.types tys.now bindgen.old }
     requires small { IsSmallRecord resolve.now.types tys.now }
     requires few { length tys.now < 2 ^ 32 }
     ensures takes { IfOk result (λ values. TakesRecordOver B.meaning resolve.now.types (shapes_of resolve.now.types tys.now) values bindgen.old bindgen.new) }
@@ -60,6 +62,7 @@ fn load_at<B: Bindgen>(
     requires below { list_all (λ ty. type_below (length resolve.now.types) ty) tys.now ≡ true }
     requires knows { B.meaning.knows bindgen.old resolve.now.types }
     requires serves { ServesAll (shapes_of resolve.now.types tys.now) }
+    requires writes { WritesEach B.meaning resolve.now.types tys.now bindgen.old }
     requires small { IsSmallRecord resolve.now.types tys.now }
     ensures count { IfOk result (λ parts. length parts ≡ length tys.now) }
     ensures loads { IfOk result (λ parts. LoadsParts B.meaning (shapes_of resolve.now.types tys.now) address.now nowhere 0 parts bindgen.old bindgen.new) }

@@ -9,6 +9,7 @@ ghost use Rattle.abi_bindgen.specs.Code.{lift_code};
 ghost use Rattle.abi_bindgen.specs.HasList.{IsKindOf};
 ghost use Rattle.abi_bindgen.specs.Lifts.{LiftsFlat};
 ghost use Rattle.abi_bindgen.specs.Sends.{Sends};
+ghost use Rattle.abi_bindgen.specs.Written.{Writes};
 
 use crate::lift::Lifted;
 use abi_bindgen::{Bindgen, Instruction, Operand, only, send_one};
@@ -27,6 +28,7 @@ pub(crate) fn lift_enum<B: Bindgen>(
 ) -> Result<Lifted<B::Operand>, OutOfMemory>
     requires down { GoesDown resolve.now.types }
     requires here { IsKindOf resolve.now.types id.0 (kind.Enum members.now) }
+    requires writes { Writes B.meaning resolve.now.types (Id id) bindgen.old }
     requires few { length members.now ≤ 2 ^ 31 }
     requires enough { at < length words.now }
     ensures next { IfOk result (λ r. r.next ≡ at + 1) }

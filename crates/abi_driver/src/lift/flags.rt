@@ -10,6 +10,7 @@ ghost use Rattle.abi_bindgen.specs.Code.{lift_code};
 ghost use Rattle.abi_bindgen.specs.HasList.{IsKindOf};
 ghost use Rattle.abi_bindgen.specs.Lifts.{LiftsFlat};
 ghost use Rattle.abi_bindgen.specs.Sends.{Sends};
+ghost use Rattle.abi_bindgen.specs.Written.{Writes};
 
 use crate::lift::Lifted;
 use abi_bindgen::{Bindgen, Instruction, push_copies, send_one};
@@ -36,6 +37,7 @@ pub(crate) fn lift_flags<B: Bindgen>(
 ) -> Result<Lifted<B::Operand>, OutOfMemory>
     requires down { GoesDown resolve.now.types }
     requires here { IsKindOf resolve.now.types id.0 (kind.Flags members.now) }
+    requires writes { Writes B.meaning resolve.now.types (Id id) bindgen.old }
     requires enough { at + flag_words (length members.now) ≤ length words.now }
     ensures next { IfOk result (λ r. r.next ≡ at + flag_words (length members.now)) }
     ensures lifts { IfOk result (λ r. (used : List B.Operand) × (drop at words.now ≡ used ++ drop r.next words.now)

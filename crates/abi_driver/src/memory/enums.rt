@@ -10,6 +10,7 @@ ghost use Rattle.abi_bindgen.specs.HasList.{IsKindOf};
 ghost use Rattle.abi_driver.specs.Loads.{LiftsFromMemory};
 ghost use Rattle.abi_bindgen.specs.Sends.{Sends};
 ghost use Rattle.abi_driver.specs.Stores.{LowersToMemory};
+ghost use Rattle.abi_bindgen.specs.Written.{Writes};
 
 use crate::memory::word::{load_word, store_word};
 use abi_bindgen::{Bindgen, Instruction, Operand, lower_by, only, send_one, tag_load, tag_store};
@@ -53,6 +54,7 @@ pub(super) fn load_enum<B: Bindgen>(
 ) -> Result<B::Operand, OutOfMemory>
     requires down { GoesDown resolve.now.types }
     requires here { IsKindOf resolve.now.types id.0 (kind.Enum members.now) }
+    requires writes { Writes B.meaning resolve.now.types (Id id) bindgen.old }
     ensures loads { IfOk result (λ r. LiftsFromMemory B.meaning (shape_at resolve.now.types id.0) address.now offset r bindgen.old bindgen.new) }
     ensures sends { OnOk result (Sends B.meaning resolve.now.types (load_code resolve.now.types (Id id) offset) bindgen.old bindgen.new) }
 {

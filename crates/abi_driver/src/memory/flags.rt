@@ -12,6 +12,7 @@ ghost use Rattle.abi_driver.specs.Loads.{LiftsFromMemory};
 ghost use Rattle.abi_bindgen.specs.Sends.{Sends};
 ghost use Rattle.abi_driver.specs.Low.{EndsLow};
 ghost use Rattle.abi_driver.specs.Stores.{LowersToMemory};
+ghost use Rattle.abi_bindgen.specs.Written.{Writes};
 
 use crate::lift::flags::flag_words;
 use crate::memory::place::word_offset;
@@ -46,6 +47,7 @@ pub(super) fn store_flags<B: Bindgen>(
 ) -> Result<(), OutOfMemory>
     requires down { GoesDown resolve.now.types }
     requires here { IsKindOf resolve.now.types id.0 (kind.Flags members.now) }
+    requires writes { Writes B.meaning resolve.now.types (Id id) bindgen.old }
     requires low { EndsLow (shape_at resolve.now.types id.0) offset }
     ensures stores { (realloc : Bool) → OnOk result (LowersToMemory B.meaning realloc (shape_at resolve.now.types id.0) value address.now offset bindgen.old bindgen.new) }
     ensures sends { (realloc : Bool) → OnOk result (Sends B.meaning resolve.now.types (store_code resolve.now.types realloc (Id id) offset) bindgen.old bindgen.new) }
@@ -76,6 +78,7 @@ pub(super) fn load_flags<B: Bindgen>(
 ) -> Result<B::Operand, OutOfMemory>
     requires down { GoesDown resolve.now.types }
     requires here { IsKindOf resolve.now.types id.0 (kind.Flags members.now) }
+    requires writes { Writes B.meaning resolve.now.types (Id id) bindgen.old }
     requires low { EndsLow (shape_at resolve.now.types id.0) offset }
     ensures loads { IfOk result (λ r. LiftsFromMemory B.meaning (shape_at resolve.now.types id.0) address.now offset r bindgen.old bindgen.new) }
     ensures sends { OnOk result (Sends B.meaning resolve.now.types (load_code resolve.now.types (Id id) offset) bindgen.old bindgen.new) }

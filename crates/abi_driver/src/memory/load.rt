@@ -1,7 +1,7 @@
 //! Values are read from memory.
 
 ghost use Rattle.std.specs.Prelude.{◌≡◌, ◌<◌, ◌∷◌, ◌++◌, [], IsTrue, true, length, map, option_map, option_to_list, Some, IfOk, OnOk};
-ghost use Rattle.std.specs.List.{list_all};
+ghost use Rattle.std.specs.List.{AllByRecursion, list_all};
 ghost use Rattle.wit_model.specs.WellFormed.{IsWellFormed};
 ghost use Rattle.wit_model.specs.TypeOrder.{GoesDown, payload_below, type_below};
 ghost use Rattle.wit_model.specs.declared.types.WitType.TheVariants.{Id, String};
@@ -18,6 +18,7 @@ ghost use Rattle.abi_bindgen.specs.Places.{HasParts};
 ghost use Rattle.abi_bindgen.specs.Sends.{Sends};
 ghost use Rattle.abi_bindgen.specs.Served.{Serves, ServesAll};
 ghost use Rattle.abi_bindgen.specs.Sent.{closes, opens};
+ghost use Rattle.abi_bindgen.specs.Written.{Writes, WritesEach, WritesPart};
 
 use crate::lift::leaf::scalar_lifting;
 use crate::lift::variants::case_lifting;
@@ -47,6 +48,7 @@ pub fn lift_from_memory<B: Bindgen>(
     requires below { IsTrue (type_below (length resolve.now.types) ty.now) }
     requires knows { B.meaning.knows bindgen.old resolve.now.types }
     requires serves { Serves (shape_of resolve.now.types ty.now) }
+    requires writes { Writes B.meaning resolve.now.types ty.now bindgen.old }
     ensures loads { IfOk result (λ r. LiftsFromMemory B.meaning (shape_of resolve.now.types ty.now) address NOWHERE r bindgen.old bindgen.new) }
     ensures sends { OnOk result (Sends B.meaning resolve.now.types (load_code resolve.now.types ty.now NOWHERE) bindgen.old bindgen.new) }
 {
@@ -70,6 +72,7 @@ pub(crate) fn load_type<B: Bindgen>(
     requires below { IsTrue (type_below (length resolve.now.types) ty) }
     requires knows { B.meaning.knows bindgen.old resolve.now.types }
     requires serves { Serves (shape_of resolve.now.types ty) }
+    requires writes { Writes B.meaning resolve.now.types ty bindgen.old }
     requires low { EndsLow (shape_of resolve.now.types ty) offset }
     ensures loads { IfOk result (λ r. LiftsFromMemory B.meaning (shape_of resolve.now.types ty) address.now offset r bindgen.old bindgen.new) }
     ensures sends { OnOk result (Sends B.meaning resolve.now.types (load_code resolve.now.types ty offset) bindgen.old bindgen.new) }
@@ -99,6 +102,7 @@ fn load_id<B: Bindgen>(
     requires within { id.0 < length resolve.now.types }
     requires knows { B.meaning.knows bindgen.old resolve.now.types }
     requires serves { Serves (shape_at resolve.now.types id.0) }
+    requires writes { Writes B.meaning resolve.now.types (Id id) bindgen.old }
     requires low { EndsLow (shape_at resolve.now.types id.0) offset }
     ensures loads { IfOk result (λ r. LiftsFromMemory B.meaning (shape_at resolve.now.types id.0) address.now offset r bindgen.old bindgen.new) }
     ensures sends { OnOk result (Sends B.meaning resolve.now.types (load_code resolve.now.types (Id id) offset) bindgen.old bindgen.new) }
@@ -154,6 +158,7 @@ fn load_variant<B: Bindgen>(
     requires cases { has_cases kind.now ≡ true }
     requires knows { B.meaning.knows bindgen.old resolve.now.types }
     requires serves { Serves (shape_at resolve.now.types id.0) }
+    requires writes { Writes B.meaning resolve.now.types (Id id) bindgen.old }
     requires low { EndsLow (shape_at resolve.now.types id.0) offset }
     ensures loads { IfOk result (λ r. LiftsFromMemory B.meaning (shape_at resolve.now.types id.0) address.now offset r bindgen.old bindgen.new) }
     ensures sends { OnOk result (Sends B.meaning resolve.now.types (load_code resolve.now.types (Id id) offset) bindgen.old bindgen.new) }
@@ -186,6 +191,7 @@ fn load_cases<B: Bindgen>(
     requires below { list_all (λ p. payload_below id.0 p) payloads.now ≡ true }
     requires knows { B.meaning.knows bindgen.old resolve.now.types }
     requires serves { ServesAll (payloads_in (shapes resolve.now.types) payloads.now) }
+    requires writes { AllByRecursion (λ p. WritesPart B.meaning resolve.now.types p bindgen.old) payloads.now }
     requires low { EachEndsLow (payloads_in (shapes resolve.now.types) payloads.now) place }
     ensures loads { OnOk result (LoadsCases B.meaning (map (λ p. length (option_to_list p)) payloads.now) (payloads_in (shapes resolve.now.types) payloads.now) address.now place bindgen.old bindgen.new) }
     ensures sends { OnOk result (Sends B.meaning resolve.now.types (in_blocks (λ n p. at_payload place (option_map (load_code resolve.now.types) p)) 0 payloads.now) bindgen.old bindgen.new) }
@@ -213,6 +219,7 @@ fn load_case<B: Bindgen>(
     requires below { payload_below id.0 payload ≡ true }
     requires knows { B.meaning.knows bindgen.old resolve.now.types }
     requires serves { Serves (payload_in (shapes resolve.now.types) payload) }
+    requires writes { WritesPart B.meaning resolve.now.types payload bindgen.old }
     requires low { EndsLow (payload_in (shapes resolve.now.types) payload) place }
     ensures loads { OnOk result (LoadsCase B.meaning (length (option_to_list payload)) (payload_in (shapes resolve.now.types) payload) address.now place bindgen.old bindgen.new) }
     ensures sends { OnOk result (Sends B.meaning resolve.now.types (opens ∷ at_payload place (option_map (load_code resolve.now.types) payload) ++ closes ∷ []) bindgen.old bindgen.new) }
@@ -246,6 +253,7 @@ fn load_payload<B: Bindgen>(
     requires below { type_below id.0 ty ≡ true }
     requires knows { B.meaning.knows bindgen.old resolve.now.types }
     requires serves { Serves (shape_of resolve.now.types ty) }
+    requires writes { Writes B.meaning resolve.now.types ty bindgen.old }
     requires low { EndsLow (shape_of resolve.now.types ty) place }
     ensures loads { OnOk result (LoadsCase B.meaning 1 (shape_of resolve.now.types ty) address.now place bindgen.old bindgen.new) }
     ensures sends { OnOk result (Sends B.meaning resolve.now.types (opens ∷ load_code resolve.now.types ty place ++ closes ∷ []) bindgen.old bindgen.new) }
@@ -275,6 +283,7 @@ fn load_parts<B: Bindgen>(
     requires parts { HasParts resolve.now.types id.0 tys.now }
     requires knows { B.meaning.knows bindgen.old resolve.now.types }
     requires serves { ServesAll (shapes_of resolve.now.types tys.now) }
+    requires writes { WritesEach B.meaning resolve.now.types tys.now bindgen.old }
     requires low { EndsLow (shape_at resolve.now.types id.0) offset }
     ensures count { IfOk result (λ parts. length parts ≡ length tys.now) }
     ensures loads { IfOk result (λ parts. LoadsParts B.meaning (shapes_of resolve.now.types tys.now) address.now offset 0 parts bindgen.old bindgen.new) }

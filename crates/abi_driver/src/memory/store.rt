@@ -1,7 +1,7 @@
 //! Values are put into memory.
 
 ghost use Rattle.std.specs.Prelude.{◌≡◌, ◌<◌, ◌≤◌, ◌^◌, ◌∷◌, ◌++◌, [], Bool, IsTrue, true, length, option_map, Some, OnOk};
-ghost use Rattle.std.specs.List.{list_all};
+ghost use Rattle.std.specs.List.{AllByRecursion, list_all};
 ghost use Rattle.wit_model.specs.WellFormed.{IsWellFormed};
 ghost use Rattle.wit_model.specs.TypeOrder.{GoesDown, payload_below, type_below};
 ghost use Rattle.wit_model.specs.declared.types.WitType.TheVariants.{Id, String};
@@ -17,6 +17,7 @@ ghost use Rattle.abi_bindgen.specs.Places.{HasParts};
 ghost use Rattle.abi_bindgen.specs.Sends.{Sends};
 ghost use Rattle.abi_bindgen.specs.Served.{Serves, ServesAll};
 ghost use Rattle.abi_bindgen.specs.Sent.{closes, opens};
+ghost use Rattle.abi_bindgen.specs.Written.{Writes, WritesEach, WritesPart};
 ghost use Rattle.abi_driver.specs.Low.{EachEndsLow, EndsLow};
 ghost use Rattle.abi_driver.specs.StoredCases.{StoresCase, StoresCases};
 ghost use Rattle.abi_driver.specs.Stores.{LowersToMemory, StoresParts};
@@ -55,6 +56,7 @@ pub fn lower_to_memory<B: Bindgen>(
     requires side { IsSide B.meaning realloc bindgen.old }
     requires knows { B.meaning.knows bindgen.old resolve.now.types }
     requires serves { Serves (shape_of resolve.now.types ty.now) }
+    requires writes { Writes B.meaning resolve.now.types ty.now bindgen.old }
     ensures stores { OnOk result (LowersToMemory B.meaning realloc (shape_of resolve.now.types ty.now) value address NOWHERE bindgen.old bindgen.new) }
     ensures sends { OnOk result (Sends B.meaning resolve.now.types (store_code resolve.now.types realloc ty.now NOWHERE) bindgen.old bindgen.new) }
 {
@@ -83,6 +85,7 @@ pub(crate) fn store_type<B: Bindgen>(
     requires side { IsSide B.meaning realloc bindgen.old }
     requires knows { B.meaning.knows bindgen.old resolve.now.types }
     requires serves { Serves (shape_of resolve.now.types ty) }
+    requires writes { Writes B.meaning resolve.now.types ty bindgen.old }
     requires low { EndsLow (shape_of resolve.now.types ty) offset }
     ensures stores { OnOk result (LowersToMemory B.meaning realloc (shape_of resolve.now.types ty) value address.now offset bindgen.old bindgen.new) }
     ensures sends { OnOk result (Sends B.meaning resolve.now.types (store_code resolve.now.types realloc ty offset) bindgen.old bindgen.new) }
@@ -115,6 +118,7 @@ fn store_id<B: Bindgen>(
     requires side { IsSide B.meaning realloc bindgen.old }
     requires knows { B.meaning.knows bindgen.old resolve.now.types }
     requires serves { Serves (shape_at resolve.now.types id.0) }
+    requires writes { Writes B.meaning resolve.now.types (Id id) bindgen.old }
     requires low { EndsLow (shape_at resolve.now.types id.0) offset }
     ensures stores { OnOk result (LowersToMemory B.meaning realloc (shape_at resolve.now.types id.0) value address.now offset bindgen.old bindgen.new) }
     ensures sends { OnOk result (Sends B.meaning resolve.now.types (store_code resolve.now.types realloc (Id id) offset) bindgen.old bindgen.new) }
@@ -183,6 +187,7 @@ fn store_variant<B: Bindgen>(
     requires side { IsSide B.meaning realloc bindgen.old }
     requires knows { B.meaning.knows bindgen.old resolve.now.types }
     requires serves { Serves (shape_at resolve.now.types id.0) }
+    requires writes { Writes B.meaning resolve.now.types (Id id) bindgen.old }
     requires low { EndsLow (shape_at resolve.now.types id.0) offset }
     ensures stores { OnOk result (LowersToMemory B.meaning realloc (shape_at resolve.now.types id.0) value address.now offset bindgen.old bindgen.new) }
     ensures sends { OnOk result (Sends B.meaning resolve.now.types (store_code resolve.now.types realloc (Id id) offset) bindgen.old bindgen.new) }
@@ -219,6 +224,7 @@ fn store_cases<B: Bindgen>(
     requires knows { B.meaning.knows bindgen.old resolve.now.types }
     requires most { length payloads.now ≤ 2 ^ 31 }
     requires serves { ServesAll (payloads_in (shapes resolve.now.types) payloads.now) }
+    requires writes { AllByRecursion (λ p. WritesPart B.meaning resolve.now.types p bindgen.old) payloads.now }
     requires low { EachEndsLow (payloads_in (shapes resolve.now.types) payloads.now) place }
     ensures stores { OnOk result (StoresCases B.meaning realloc (discriminant_grain (length payloads.now)) 0 (payloads_in (shapes resolve.now.types) payloads.now) address.now offset place bindgen.old bindgen.new) }
     ensures sends { OnOk result (Sends B.meaning resolve.now.types (in_blocks (λ n p. store_case (length payloads.now) offset place n (option_map (store_code resolve.now.types realloc) p)) 0 payloads.now) bindgen.old bindgen.new) }
@@ -266,6 +272,7 @@ fn store_case<B: Bindgen>(
     requires side { IsSide B.meaning realloc bindgen.old }
     requires knows { B.meaning.knows bindgen.old resolve.now.types }
     requires serves { Serves (payload_in (shapes resolve.now.types) payload) }
+    requires writes { WritesPart B.meaning resolve.now.types payload bindgen.old }
     requires low { EndsLow (payload_in (shapes resolve.now.types) payload) place }
     ensures stores { OnOk result (StoresCase B.meaning realloc (discriminant_grain count) number (payload_in (shapes resolve.now.types) payload) address.now offset place bindgen.old bindgen.new) }
     ensures sends { OnOk result (Sends B.meaning resolve.now.types (opens ∷ store_case count offset place number (option_map (store_code resolve.now.types realloc) payload) ++ closes ∷ []) bindgen.old bindgen.new) }
@@ -308,6 +315,7 @@ fn store_payload<B: Bindgen>(
     requires side { IsSide B.meaning realloc bindgen.old }
     requires knows { B.meaning.knows bindgen.old resolve.now.types }
     requires serves { Serves (shape_of resolve.now.types ty) }
+    requires writes { Writes B.meaning resolve.now.types ty bindgen.old }
     requires low { EndsLow (shape_of resolve.now.types ty) place }
     ensures stores { OnOk result (StoresCase B.meaning realloc (discriminant_grain count) number (shape_of resolve.now.types ty) address.now offset place bindgen.old bindgen.new) }
     ensures sends { OnOk result (Sends B.meaning resolve.now.types (opens ∷ store_case count offset place number (Some (store_code resolve.now.types realloc ty)) ++ closes ∷ []) bindgen.old bindgen.new) }
@@ -342,6 +350,7 @@ fn store_parts<B: Bindgen>(
     requires side { IsSide B.meaning realloc bindgen.old }
     requires knows { B.meaning.knows bindgen.old resolve.now.types }
     requires serves { ServesAll (shapes_of resolve.now.types tys.now) }
+    requires writes { WritesEach B.meaning resolve.now.types tys.now bindgen.old }
     requires low { EndsLow (shape_at resolve.now.types id.0) offset }
     ensures stores { OnOk result (StoresParts B.meaning realloc (shapes_of resolve.now.types tys.now) parts.now address.now offset 0 bindgen.old bindgen.new) }
     ensures sends { OnOk result (Sends B.meaning resolve.now.types (each (λ n ty. store_code resolve.now.types realloc ty (beyond offset (place_in (tree_at resolve.now.types id.0) n))) 0 tys.now) bindgen.old bindgen.new) }

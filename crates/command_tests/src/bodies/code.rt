@@ -1,6 +1,6 @@
 //! The driver's code for the functions of these worlds, made apart from their files.
 
-ghost use Rattle.std.specs.Prelude.{◌≡◌, ◌<◌, [], ◌∷◌, length, map, true, IfOk};
+ghost use Rattle.std.specs.Prelude.{◌≡◌, ◌<◌, ℕ, [], ◌∷◌, length, map, true, IfOk};
 ghost use Rattle.std.specs.List.{AllByRecursion};
 ghost use Rattle.wit_model.specs.Distinct.{is_distinct};
 ghost use Rattle.wit_model.specs.IndexRange.{function_in_range};
@@ -14,7 +14,8 @@ ghost use Rattle.abi_driver.specs.Exports.{export_params};
 ghost use Rattle.func_gen.specs.Meaning.{func_meaning};
 ghost use Rattle.func_gen.specs.Sites.{IsSite, site_names};
 ghost use Rattle.func_gen.specs.TypeSites.{CanBeDefined};
-ghost use Rattle.wrapper_closing.specs.Parts.{AreParts, IsMadeFrom};
+ghost use Rattle.func_gen.specs.Written.{CanWrite};
+ghost use Rattle.wrapper_closing.specs.Parts.{AreParts, CanWriteFunction, IsMadeFrom};
 
 use crate::bodies::sites::{flags_sites, variant_sites};
 use crate::bodies::worlds::function;
@@ -42,6 +43,7 @@ pub(crate) fn import_parts(alloc: Global, resolve: &Resolve) -> Result<BodyParts
     requires { IsWellFormed resolve.now }
     ensures parts { IfOk result (AreParts resolve.now.types) }
     ensures many { IfOk result (λ parts. length parts.params ≡ 1) }
+    ensures written { IfOk result (λ parts. (id : ℕ) → CanWrite resolve.now.types parts.sites id) }
 {
     let names = names(alloc)?;
     let area = ret_area(alloc)?;
@@ -51,7 +53,7 @@ pub(crate) fn import_parts(alloc: Global, resolve: &Resolve) -> Result<BodyParts
     let home = Text::from_str(alloc, "$root")?;
     let cleanup = cleanup_list(alloc)?;
     let params = param_sites(alloc, names.as_slice())?;
-    let sites = variant_sites(alloc)?;
+    let sites = variant_sites(alloc, resolve.types.as_slice())?;
     let sizes = SizeAlign::fill(alloc, resolve)?;
     Ok(BodyParts {
         sizes,
@@ -111,6 +113,7 @@ fn called_import(
     requires serves { ServesFunction resolve.now.types func.now }
     requires small { IsSmallRecord resolve.now.types (map (λ p. p.ty) func.now.params) }
     requires parts { AreParts resolve.now.types parts }
+    requires writes { CanWriteFunction resolve.now.types parts.sites func.now }
     requires many { length parts.params ≡ length func.now.params }
 {
     let mut bindgen = fresh(alloc, true, parts)?;
@@ -132,13 +135,14 @@ fn export_parts(alloc: Global, resolve: &Resolve, func: &Function) -> Result<Bod
     requires within { function_in_range resolve.now func.now ≡ true }
     ensures parts { IfOk result (AreParts resolve.now.types) }
     ensures many { IfOk result (λ parts. length parts.params ≡ length (export_params resolve.now.types func.now)) }
+    ensures written { IfOk result (λ parts. (id : ℕ) → CanWrite resolve.now.types parts.sites id) }
 {
     let words = core_params(alloc, resolve, func)?;
     let home = Text::from_str(alloc, "Guest")?;
     let area = ret_area(alloc)?;
     let cleanup = cleanup_list(alloc)?;
     let params = core_sites(alloc, words.as_slice())?;
-    let sites = flags_sites(alloc)?;
+    let sites = flags_sites(alloc, resolve.types.as_slice())?;
     let sizes = SizeAlign::fill(alloc, resolve)?;
     Ok(BodyParts {
         sizes,
@@ -175,6 +179,7 @@ fn called_export(
     requires serves { ServesFunction resolve.now.types func.now }
     requires small { IsSmallRecord resolve.now.types (map (λ p. p.ty) func.now.params) }
     requires parts { AreParts resolve.now.types parts }
+    requires writes { CanWriteFunction resolve.now.types parts.sites func.now }
     requires many { length parts.params ≡ length (export_params resolve.now.types func.now) }
 {
     let mut bindgen = fresh(alloc, false, parts)?;

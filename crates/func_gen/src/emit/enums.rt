@@ -1,16 +1,20 @@
 //! Enums become the numbers of their cases, and words cases.
 
-ghost use Rattle.std.specs.Prelude.{◌≡◌, ◌*◌, ◌^◌, [], Some, length, IfOk, OnOk, true};
-ghost use Rattle.wit_layout.specs.Extent.{discriminant_grain};
-ghost use Rattle.wrapper_values.specs.Flags.{repr_bits};
-ghost use Rattle.abi_bindgen.specs.Instructions.{Emits};
+ghost use Rattle.std.specs.Prelude.{◌≡◌, [], Some, length, IfOk, OnOk, true};
+ghost use Rattle.rust_tree.specs.declared.expr.CastType.{CastType};
+ghost use Rattle.wit_model.specs.Bytes.{Bytes};
+ghost use Rattle.wrapper_values.specs.Fields.{root_name};
+ghost use Rattle.abi_bindgen.specs.Instructions.{Emits, IsSendable};
 ghost use Rattle.abi_bindgen.specs.declared.instruction.Instruction.TheVariants as instruction;
-ghost use Rattle.func_gen.specs.EnumForms.{HasCaseCount, IsEnum, IsEnumSite, LiftsBy, LiftsEnumAt, case_cast};
+ghost use Rattle.func_gen.specs.EnumForms.{IsEnum, LiftsEnumAt, case_cast, enum_at, lift_path};
 ghost use Rattle.func_gen.specs.Operand.{is_operand};
 ghost use Rattle.func_gen.specs.Meaning.{func_meaning};
+ghost use Rattle.func_gen.specs.Written.{WritesEnum};
+ghost use Rattle.func_gen.specs.declared.enum_site.EnumSite.{EnumSite};
 
 use crate::added::{only_expr, only_operand};
 use crate::emit::casts::cast_to;
+use crate::emit::variants::name_at_root;
 use crate::enum_site::EnumSite;
 use crate::forms::{call_of, push_name};
 use crate::function_bindgen::FunctionBindgen;
@@ -18,73 +22,28 @@ use crate::operand::{ExprOperand, copy_expr};
 use crate::type_site::TypeSite;
 use rust_tree::{CastType, Expr, Path, Repr};
 use std::alloc::Global;
-use wit_model::{Boxed, List, OutOfMemory, Resolve, Text, TypeDefKind, TypeId};
+use wit_model::{Boxed, List, OutOfMemory, Resolve, Text, TypeId};
 
-/// How many cases the enum at a place of the table has.
-fn case_count(resolve: &Resolve, id: TypeId) -> usize
-    requires { IsEnum resolve.now.types id.0 }
-    ensures { HasCaseCount resolve.now.types id.0 result }
+/// The type to which a word is cast for the number that holds a case.
+fn case_cast(repr: Repr) -> CastType
+    requires { (to : CastType) × (case_cast repr ≡ Some to) }
+    ensures { case_cast repr ≡ Some result }
 {
-    match &resolve.types.as_slice()[id.0 as usize].kind {
-        TypeDefKind::Enum(members) => members.len(),
+    match repr {
+        Repr::U8 => CastType::U8,
+        Repr::U16 => CastType::U16,
+        Repr::U32 => CastType::U32,
         _ => unreachable!(),
     }
 }
 
-/// How many bits a number has.
-pub(crate) fn repr_bits(repr: Repr) -> u32
-    ensures { result ≡ repr_bits repr }
+/// The path of the function that gives a case: `P::_lift`.
+#[tactic(auto, unfolding(wrapper_run::specs::Run::lift_name))]
+fn lift_path(alloc: Global, ty: &Text) -> Result<Path, OutOfMemory>
+    ensures { IfOk result (λ p. p ≡ lift_path ty.now) }
 {
-    match repr {
-        Repr::U8 => 8,
-        Repr::U16 => 16,
-        Repr::U32 => 32,
-        Repr::U64 => 64,
-        Repr::U128 => 128,
-    }
-}
-
-/// How many bits the tag of so many cases has.
-fn tag_bits(cases: u32) -> u32
-    ensures { result ≡ 8 * 2 ^ discriminant_grain cases }
-{
-    if cases <= 256 {
-        8
-    } else if cases <= 65536 {
-        16
-    } else {
-        32
-    }
-}
-
-/// The type to which a word is cast for the number that holds a case. Where the number is wider there is no memory.
-fn case_cast(repr: Repr) -> Result<CastType, OutOfMemory>
-    ensures { IfOk result (λ to. case_cast repr ≡ Some to) }
-{
-    match repr {
-        Repr::U8 => Ok(CastType::U8),
-        Repr::U16 => Ok(CastType::U16),
-        Repr::U32 => Ok(CastType::U32),
-        _ => Err(OutOfMemory),
-    }
-}
-
-/// The path of the function that gives a case: `P::_lift`. Of a path that is no name of the file's root there is no memory.
-#[tactic(auto, unfolding(wrapper_run::specs::Run::lift_name, wrapper_run::specs::Run::runtime_module_name))]
-fn lift_path(alloc: Global, path: &Path) -> Result<Path, OutOfMemory>
-    ensures { IfOk result (λ p. LiftsBy path.now p) }
-{
-    if path.lead || path.supers != 0 {
-        return Err(OutOfMemory);
-    }
-    let [name] = path.names.as_slice() else {
-        return Err(OutOfMemory);
-    };
-    if name.as_str() == "_rt" {
-        return Err(OutOfMemory);
-    }
     let mut names = List::new(alloc);
-    push_name(alloc, &mut names, name.as_str())?;
+    push_name(alloc, &mut names, ty.as_str())?;
     push_name(alloc, &mut names, "_lift")?;
     Ok(Path {
         lead: false,
@@ -93,40 +52,27 @@ fn lift_path(alloc: Global, path: &Path) -> Result<Path, OutOfMemory>
     })
 }
 
-/// How an enum of the table is written. Of one without a site, with other cases in number, or held by another number than their tag, there
-/// is no memory.
-fn enum_site<'a>(
-    sites: &'a [Option<TypeSite>],
-    resolve: &Resolve,
-    id: TypeId,
-) -> Result<&'a EnumSite, OutOfMemory>
-    requires { IsEnum resolve.now.types id.0 }
-    ensures { IfOk result (λ s. IsEnumSite resolve.now.types sites.now id.0 s.now) }
+/// How an enum of the table is written.
+fn enum_site(sites: &[Option<TypeSite>], id: TypeId) -> &EnumSite
+    requires { (s : EnumSite) × (enum_at sites.now id.0 ≡ Some s) }
+    ensures { enum_at sites.now id.0 ≡ Some result.now }
 {
-    let at = id.0 as usize;
-    if at >= sites.len() {
-        return Err(OutOfMemory);
+    match &sites[id.0 as usize] {
+        Some(TypeSite::Enum(site)) => site,
+        _ => unreachable!(),
     }
-    let count = case_count(resolve, id);
-    let Some(TypeSite::Enum(site)) = &sites[at] else {
-        return Err(OutOfMemory);
-    };
-    if site.cases as usize != count || repr_bits(site.repr) != tag_bits(site.cases) {
-        return Err(OutOfMemory);
-    }
-    Ok(site)
 }
 
 impl FunctionBindgen {
     /// The call that gives the case of a word's number.
     fn lifted_case(&self, resolve: &Resolve, id: TypeId, e: &Expr) -> Result<Expr, OutOfMemory>
         requires operand { is_operand e.now ≡ true }
-        requires kind { IsEnum resolve.now.types id.0 }
+        requires site { WritesEnum resolve.now.types self.now.sites id.0 }
         ensures { IfOk result (λ c. LiftsEnumAt resolve.now.types self.now.sites id.0 e.now c) }
     {
-        let site = enum_site(self.sites.as_slice(), resolve, id)?;
-        let to = case_cast(site.repr)?;
-        let path = lift_path(self.alloc, &site.path)?;
+        let site = enum_site(self.sites.as_slice(), id);
+        let to = case_cast(site.repr);
+        let path = lift_path(self.alloc, name_at_root(&site.path))?;
         let number = cast_to(self.alloc, copy_expr(e, self.alloc)?, to)?;
         call_of(self.alloc, path, number)
     }
@@ -156,8 +102,7 @@ impl FunctionBindgen {
         operands: &List<ExprOperand>,
         results: &mut List<ExprOperand>,
     ) -> Result<(), OutOfMemory>
-        requires kind { IsEnum resolve.now.types id.0 }
-        requires one { length operands.now ≡ 1 }
+        requires sendable { IsSendable func_meaning resolve.now (instruction.EnumLift id) operands.now self.old }
         requires empty { results.old ≡ [] }
         ensures { OnOk result (Emits func_meaning resolve.now.types (instruction.EnumLift id) operands.now results.new self.old self.new) }
     {

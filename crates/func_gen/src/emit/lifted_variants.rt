@@ -1,14 +1,14 @@
 //! Finished blocks become the arms of a match by numbers, of which the last one tests its number: words become the cases of variants.
 
 ghost use Rattle.std.specs.Prelude.{◌≡◌, ◌<◌, ◌+◌, ◌≤◌, ◌^◌, [], ◌∷◌, false, true, length, reverse, take, IfOk, OnOk};
-ghost use Rattle.std.specs.List.{list_all};
+ghost use Rattle.std.specs.List.{AllByRecursion, list_all};
 ghost use Rattle.rust_tree.specs.declared.pattern.ArmPattern.TheVariants as pattern;
 ghost use Rattle.rust_tree.specs.declared.stmt.Stmt.TheVariants as stmt;
 ghost use Rattle.wit_model.specs.Bytes.{Bytes};
 ghost use Rattle.wrapper_run.specs.Inward as spec;
 ghost use Rattle.abi_bindgen.specs.Instructions.{Emits, IsSendable};
 ghost use Rattle.abi_bindgen.specs.declared.instruction.Instruction.TheVariants as instruction;
-ghost use Rattle.func_gen.specs.CalledCases.{calls_case, is_called, is_other_module};
+ghost use Rattle.func_gen.specs.declared.function_bindgen.FinishedBlock.{FinishedBlock};
 ghost use Rattle.func_gen.specs.LiftedCases.{LiftsVariantBy, MemberArms, NamesCase, is_liftable, last_body};
 ghost use Rattle.func_gen.specs.MatchForms.{arm_of};
 ghost use Rattle.func_gen.specs.Operand.{is_operand};
@@ -23,45 +23,9 @@ use crate::emit::variants::variant_forms;
 use crate::function_bindgen::{FinishedBlock, FunctionBindgen};
 use crate::operand::{ExprOperand, copy_expr};
 use crate::scope::{LocalName, numbered};
-use rust_tree::{Arm, ArmPattern, Expr, MatchNames, Path, Stmt};
+use rust_tree::{Arm, ArmPattern, Expr, MatchNames, Stmt};
 use std::alloc::Global;
 use wit_model::{List, OutOfMemory, Resolve, Text, TypeId};
-
-/// Whether functions of another module stand behind a name: of `_rt`, or of a number type.
-#[tactic(auto, unfolding(crate::specs::CalledCases::is_other_module))]
-fn is_other_module(name: &Text) -> bool
-    ensures { result ≡ is_other_module name.now }
-{
-    let name = name.as_str();
-    name == "_rt" || name == "i64" || name == "f32" || name == "f64"
-}
-
-/// Whether a path is called as a case of a type of the file.
-fn calls_case(path: &Path) -> bool
-    ensures { result ≡ calls_case path.now }
-{
-    if path.lead || path.supers != 0 {
-        return false;
-    }
-    match path.names.as_slice() {
-        [ty, _] => !is_other_module(ty),
-        _ => false,
-    }
-}
-
-fn is_called(case: &CaseForm) -> bool
-    ensures { result ≡ is_called case.now }
-{
-    match case {
-        CaseForm::Bare(path) | CaseForm::Full(path) | CaseForm::LeftOut(path) => calls_case(path),
-    }
-}
-
-fn are_called(cases: &[CaseForm]) -> bool
-    ensures { result ≡ list_all is_called cases.now }
-{
-    cases.iter().all(|case| is_called(case))
-}
 
 /// A statement before others.
 fn stmts_behind(first: Stmt, later: List<Stmt>) -> Result<List<Stmt>, OutOfMemory>
@@ -85,7 +49,7 @@ fn tested_stmts(
     stmts_behind(test, later)
 }
 
-/// The arm of the last case, which has the number under a name. Of a block that has the name in reach there is no memory.
+/// The arm of the last case, which has the number under a name that the block does not have in reach.
 fn last_arm(
     alloc: Global,
     name: Text,
@@ -94,26 +58,24 @@ fn last_arm(
     block: FinishedBlock,
 ) -> Result<Arm, OutOfMemory>
     requires few { is_liftable block ≡ true }
+    requires unnamed { is_used block.names name ≡ false }
     ensures arm { IfOk result (λ a. a ≡ arm_of (pattern.Name name) (last_body name number case.now block)) }
-    ensures unnamed { IfOk result (λ a. is_used block.names name ≡ false) }
     ensures inward { IfOk result (λ a. spec.is_inward (last_body name number case.now block) ≡ true) }
 {
     let FinishedBlock {
         number: _,
-        names,
+        names: _,
         stmts: later,
         results,
     } = block;
-    if names.contains(name.as_str()) {
-        return Err(OutOfMemory);
-    }
     let stmts = tested_stmts(alloc, &name, number, later)?;
     let body = case_body(alloc, case, stmts, results.as_slice())?;
     let pattern = ArmPattern::Name(name);
     Ok(Arm { pattern, body })
 }
 
-/// The arms of a variant's cases, made of blocks of which the last one is the first. The arm of the last case has the number under a name.
+/// The arms of a variant's cases, made of blocks of which the last one is the first. The arm of the last case has the number under a name
+/// that none of them has in reach.
 fn member_arms(
     alloc: Global,
     cases: &[CaseForm],
@@ -124,6 +86,7 @@ fn member_arms(
     requires many { length blocks ≡ length cases.now + 1 }
     requires low { length cases.now < 2 ^ 32 }
     requires few { list_all is_liftable (reverse blocks) ≡ true }
+    requires unnamed { AllByRecursion (λ (b : FinishedBlock). is_used b.names number ≡ false) blocks }
     ensures { IfOk result (λ arms. MemberArms cases.now last.now number blocks arms) }
 {
     let (block, others) = parted(blocks);
@@ -187,12 +150,9 @@ impl FunctionBindgen {
         ensures { OnOk result (Emits func_meaning resolve.now.types (instruction.VariantLift id) operands.now results.new self.old self.new) }
     {
         let forms = variant_forms(self.alloc, resolve, self.sites.as_slice(), id)?;
-        if !are_called(forms.as_slice()) {
-            return Err(OutOfMemory);
-        }
         let mut cases = forms.into_vec();
         let Some(last) = cases.pop() else {
-            return Err(OutOfMemory);
+            unreachable!()
         };
         let e = only_expr(operands)?;
         let name = self.lift_members(cases.as_slice(), &last, e)?;

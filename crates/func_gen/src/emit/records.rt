@@ -1,15 +1,17 @@
 //! Records are taken apart, and made of their fields.
 
-ghost use Rattle.std.specs.Prelude.{◌≡◌, ℕ, [], true, length, zip, IfOk, OnOk};
+ghost use Rattle.std.specs.Prelude.{◌≡◌, ℕ, [], Some, true, length, zip, IfOk, OnOk};
 ghost use Rattle.rust_tree.specs.declared.pattern.Pattern.TheVariants as pattern;
 ghost use Rattle.rust_tree.specs.declared.stmt.Stmt.TheVariants as stmt;
-ghost use Rattle.abi_bindgen.specs.Instructions.{Emits};
+ghost use Rattle.abi_bindgen.specs.Instructions.{Emits, IsSendable, Reads};
 ghost use Rattle.abi_bindgen.specs.declared.instruction.Instruction.TheVariants as instruction;
 ghost use Rattle.func_gen.specs.Operand.{is_operand};
 ghost use Rattle.func_gen.specs.Meaning.{func_meaning};
 ghost use Rattle.func_gen.specs.PartForms.{are_operands, exprs_of};
-ghost use Rattle.func_gen.specs.RecordForms.{DeclaresFields, HasFieldCount, IsARecord, IsSiteOf, MakesRecord, SplitsRecord, locals_for};
-ghost use Rattle.func_gen.specs.Scope.{names_at};
+ghost use Rattle.func_gen.specs.RecordForms.{DeclaresFields, MakesRecord, SplitsRecord, locals_for, record_at};
+ghost use Rattle.func_gen.specs.Scope.{Keeps, names_at};
+ghost use Rattle.func_gen.specs.Written.{WritesRecord};
+ghost use Rattle.func_gen.specs.declared.record_site.RecordSite.{RecordSite};
 
 use crate::added::only_expr;
 use crate::emit::parts::push_locals;
@@ -20,18 +22,7 @@ use crate::scope::{LocalName, Scope};
 use crate::type_site::TypeSite;
 use rust_tree::{Expr, Pattern, Stmt};
 use std::alloc::Global;
-use wit_model::{List, OutOfMemory, Resolve, Text, TypeDefKind, TypeId};
-
-/// How many fields the record at a place of the table has.
-fn field_count(resolve: &Resolve, id: TypeId) -> usize
-    requires { IsARecord resolve.now.types id.0 }
-    ensures { HasFieldCount resolve.now.types id.0 result }
-{
-    match &resolve.types.as_slice()[id.0 as usize].kind {
-        TypeDefKind::Record(members) => members.len(),
-        _ => unreachable!(),
-    }
-}
+use wit_model::{List, OutOfMemory, Resolve, Text, TypeId};
 
 /// Each field with the expression of an operand.
 fn field_exprs(
@@ -105,30 +96,22 @@ fn let_fields(
     Ok(Stmt::LetParts(pattern, copy_expr(e, alloc)?))
 }
 
-/// How a record of the table is written. Of one without a site, or with other fields in number, there is no memory.
-fn record_site<'a>(
-    sites: &'a [Option<TypeSite>],
-    resolve: &Resolve,
-    id: TypeId,
-) -> Result<&'a RecordSite, OutOfMemory>
-    requires { IsARecord resolve.now.types id.0 }
-    ensures { IfOk result (λ s. IsSiteOf resolve.now.types sites.now id.0 s.now) }
+/// How a record of the table is written.
+fn record_site(sites: &[Option<TypeSite>], id: TypeId) -> &RecordSite
+    requires { (s : RecordSite) × (record_at sites.now id.0 ≡ Some s) }
+    ensures { record_at sites.now id.0 ≡ Some result.now }
 {
-    let at = id.0 as usize;
-    if at >= sites.len() {
-        return Err(OutOfMemory);
-    }
-    let count = field_count(resolve, id);
-    match &sites[at] {
-        Some(TypeSite::Record(site)) if site.fields.len() == count => Ok(site),
-        _ => Err(OutOfMemory),
+    match &sites[id.0 as usize] {
+        Some(TypeSite::Record(site)) => site,
+        _ => unreachable!(),
     }
 }
 
 impl Scope {
     /// The names of locals for fields, which get one number.
     fn declare_fields(&mut self, alloc: Global, fields: &[Text]) -> Result<List<Text>, OutOfMemory>
-        ensures { IfOk result (λ names. DeclaresFields self.old fields.now names self.new) }
+        ensures declares { IfOk result (λ names. DeclaresFields self.old fields.now names self.new) }
+        ensures keeps { Keeps self.old.used self.new.used }
     {
         let locals = field_names(alloc, fields)?;
         let names = self.declare_all(alloc, locals.as_slice())?;
@@ -144,13 +127,11 @@ impl FunctionBindgen {
         id: TypeId,
         operands: &List<ExprOperand>,
     ) -> Result<Expr, OutOfMemory>
-        requires { IsARecord resolve.now.types id.0 }
+        requires site { WritesRecord resolve.now.types self.now.sites id.0 }
+        requires reads { Reads resolve.now.types (instruction.RecordLift id) (length operands.now) }
         ensures { IfOk result (λ e. MakesRecord resolve.now.types self.now.sites id.0 operands.now e) }
     {
-        let site = record_site(self.sites.as_slice(), resolve, id)?;
-        if operands.len() != site.fields.len() {
-            return Err(OutOfMemory);
-        }
+        let site = record_site(self.sites.as_slice(), id);
         let path = copy_path(&site.lifted, self.alloc)?;
         let fields = field_exprs(self.alloc, site.fields.as_slice(), operands.as_slice())?;
         Ok(Expr::Record(path, fields))
@@ -163,7 +144,7 @@ impl FunctionBindgen {
         operands: &List<ExprOperand>,
         results: &mut List<ExprOperand>,
     ) -> Result<(), OutOfMemory>
-        requires kind { IsARecord resolve.now.types id.0 }
+        requires sendable { IsSendable func_meaning resolve.now (instruction.RecordLift id) operands.now self.old }
         requires empty { results.old ≡ [] }
         ensures { OnOk result (Emits func_meaning resolve.now.types (instruction.RecordLift id) operands.now results.new self.old self.new) }
     {
@@ -182,10 +163,10 @@ impl FunctionBindgen {
         e: &Expr,
     ) -> Result<List<Text>, OutOfMemory>
         requires operand { is_operand e.now ≡ true }
-        requires kind { IsARecord resolve.now.types id.0 }
+        requires site { WritesRecord resolve.now.types self.old.sites id.0 }
         ensures { IfOk result (λ names. SplitsRecord resolve.now.types id.0 e.now names self.old self.new) }
     {
-        let site = record_site(self.sites.as_slice(), resolve, id)?;
+        let site = record_site(self.sites.as_slice(), id);
         let names = self
             .scope
             .declare_fields(self.alloc, site.fields.as_slice())?;
@@ -201,8 +182,7 @@ impl FunctionBindgen {
         operands: &List<ExprOperand>,
         results: &mut List<ExprOperand>,
     ) -> Result<(), OutOfMemory>
-        requires kind { IsARecord resolve.now.types id.0 }
-        requires one { length operands.now ≡ 1 }
+        requires sendable { IsSendable func_meaning resolve.now (instruction.RecordLower id) operands.now self.old }
         requires empty { results.old ≡ [] }
         ensures { OnOk result (Emits func_meaning resolve.now.types (instruction.RecordLower id) operands.now results.new self.old self.new) }
     {

@@ -1,6 +1,7 @@
 //! Values with cases become what their cases do.
 
 ghost use Rattle.std.specs.Prelude.{◌≡◌, [], Some, length, IfOk, OnOk};
+ghost use Rattle.wit_model.specs.Bytes.{Bytes};
 ghost use Rattle.wit_model.specs.WellFormed.{IsWellFormed};
 ghost use Rattle.wit_model.specs.declared.types.TypeDefKind.TheVariants as kind_of;
 ghost use Rattle.wrapper_values.specs.Fields.{root_name};
@@ -9,6 +10,8 @@ ghost use Rattle.abi_bindgen.specs.Instructions.{Emits, IsSendable};
 ghost use Rattle.abi_bindgen.specs.declared.instruction.Instruction.TheVariants as instruction;
 ghost use Rattle.func_gen.specs.CaseForms.{AreVariantForms, IsVariant, member_form, member_forms, member_path, variant_at};
 ghost use Rattle.func_gen.specs.Meaning.{func_meaning};
+ghost use Rattle.func_gen.specs.Written.{CanWrite};
+ghost use Rattle.func_gen.specs.declared.variant_site.VariantSite.{VariantSite};
 
 use crate::added::only_expr;
 use crate::case_form::CaseForm;
@@ -68,31 +71,26 @@ fn member_forms(
     Ok(forms)
 }
 
-/// The one name of a path of the file's root. Of another path there is no memory.
-fn name_at_root(path: &Path) -> Result<&Text, OutOfMemory>
-    ensures { IfOk result (λ name. root_name path.now ≡ Some name.now) }
+/// The one name of a path of the file's root.
+pub(crate) fn name_at_root(path: &Path) -> &Text
+    requires { (name : Bytes) × (root_name path.now ≡ Some name) }
+    ensures { root_name path.now ≡ Some result.now }
 {
-    if path.lead || path.supers != 0 {
-        return Err(OutOfMemory);
+    match path.names.as_slice() {
+        [name] => name,
+        _ => unreachable!(),
     }
-    let [name] = path.names.as_slice() else {
-        return Err(OutOfMemory);
-    };
-    Ok(name)
 }
 
-/// How the variant at a place of the table is written. Of one without a site there is no memory.
-fn variant_site(sites: &[Option<TypeSite>], id: TypeId) -> Result<&VariantSite, OutOfMemory>
-    ensures { IfOk result (λ s. variant_at sites.now id.0 ≡ Some s.now) }
+/// How the variant at a place of the table is written.
+fn variant_site(sites: &[Option<TypeSite>], id: TypeId) -> &VariantSite
+    requires { (s : VariantSite) × (variant_at sites.now id.0 ≡ Some s) }
+    ensures { variant_at sites.now id.0 ≡ Some result.now }
 {
-    let at = id.0 as usize;
-    if at >= sites.len() {
-        return Err(OutOfMemory);
+    match &sites[id.0 as usize] {
+        Some(TypeSite::Variant(site)) => site,
+        _ => unreachable!(),
     }
-    let Some(TypeSite::Variant(site)) = &sites[at] else {
-        return Err(OutOfMemory);
-    };
-    Ok(site)
 }
 
 /// The cases of the variant at a place of the table.
@@ -106,7 +104,7 @@ fn variant_cases(resolve: &Resolve, id: TypeId) -> &[Case]
     }
 }
 
-/// The forms of the cases of a variant of the table. Of one without a site, or with other cases in number, there is no memory.
+/// The forms of the cases of a variant of the table.
 pub(crate) fn variant_forms(
     alloc: Global,
     resolve: &Resolve,
@@ -115,14 +113,12 @@ pub(crate) fn variant_forms(
 ) -> Result<List<CaseForm>, OutOfMemory>
     requires well { IsWellFormed resolve.now }
     requires kind { IsVariant resolve.now.types id.0 }
+    requires site { CanWrite resolve.now.types sites.now id.0 }
     ensures { IfOk result (λ forms. AreVariantForms resolve.now.types sites.now id.0 forms) }
 {
-    let site = variant_site(sites, id)?;
-    let name = name_at_root(&site.lowered)?;
+    let site = variant_site(sites, id);
+    let name = name_at_root(&site.lowered);
     let members = variant_cases(resolve, id);
-    if site.cases.len() != members.len() {
-        return Err(OutOfMemory);
-    }
     member_forms(alloc, name, site.cases.as_slice(), members)
 }
 

@@ -1,8 +1,9 @@
 use Rattle.std.proofs.Common.{rules, ◌≡◌, ℤ, pos, ◌<◌, ◌≤◌, ◌^◌, ◌-◌, true, List, [], ◌∷◌, take, drop, Option, None, Some, option_map, ◌++◌, length, map, get_or, refl, sym, ap, ◌∙◌, subst, arith}
-use Rattle.std.specs.List.{list_all}
+use Rattle.std.specs.List.{AllByRecursion, list_all}
 use Rattle.std.proofs.lemmas.Bool.{lt-ltb}
 use Rattle.std.proofs.lemmas.List.{drop_more, length-drop, length-map, length-take-le, take_all}
 use Rattle.std.proofs.lemmas.Option.{slice_get_within}
+use Rattle.wit_model.specs.Reaches.{reaches_itself}
 use Rattle.wit_model.specs.TypeOrder.{payload_below, type_below}
 use Rattle.wit_model.specs.declared.types.Field.{Field}
 use Rattle.wit_model.specs.declared.types.TypeDef.{TypeDef}
@@ -26,6 +27,7 @@ use Rattle.abi_bindgen.specs.Sent.{closes, sends}
 use Rattle.abi_bindgen.specs.Served.{ServesAll}
 use Rattle.abi_bindgen.specs.SlotCasts.{AddsZeros, AreOrdered, CastsAll, FitIn, ReadBack}
 use Rattle.abi_bindgen.specs.WordCount.{word_count, word_counts}
+use Rattle.abi_bindgen.specs.Written.{Writes, WritesEach, WritesPart}
 use Rattle.abi_bindgen.proofs.BlockRuns.{grows_alike, grows_none}
 use Rattle.abi_bindgen.proofs.CaseLowers.{full_lowers}
 use Rattle.abi_bindgen.proofs.Payloads.{count_told, payload_count, payload_in_table, payload_ranked, payload_told, slots_told, variant_below, variant_shape, payload_some}
@@ -40,6 +42,7 @@ use Rattle.abi_bindgen.proofs.Runs.{adds_both, side_later}
 use Rattle.abi_bindgen.proofs.Serving.{alias_served, enum_served, few_payloads, other_refused, part_served, payload_served, payloads_served, record_served, tuple_served}
 use Rattle.abi_bindgen.proofs.SendSteps.{sends_as, sends_both, sends_last, sends_next, sends_one, sends_then}
 use Rattle.abi_bindgen.proofs.WordCounts.{alias_words, case_count, few_words, no_more, part_few, record_words, tuple_words}
+use Rattle.abi_bindgen.proofs.Writing.{alias_written, each_later, one_written, part_later, payload_written, payloads_written, record_written, tuple_written, writes_later}
 use Rattle.abi_bindgen.proofs.lower.+lower.Goals as goal
 
 pub lower_id-lower_type-requires : goal.lower_id-lower_type-requires
@@ -51,6 +54,7 @@ lower_id-lower_type-requires g t c κs within =
     let low : rank c.in-Alias.ty ≤ c.args.id.0 = alias_rank types c.requires.down c.args.id.0 d at c.in-Alias.ty is in
     let below = alias_below types c.requires.down c.args.id.0 d at c.in-Alias.ty is c.requires.within in
     let served = alias_served types c.requires.down c.args.id.0 d at c.requires.serves c.in-Alias.ty is in
+    let writes = alias_written g.B.Bindgen.meaning types c.args.id d at c.args.bindgen.now c.requires.writes c.in-Alias.ty is in
     let few : word_count types c.in-Alias.ty ≤ 16 = subst (λ n. n ≤ 16) (alias_words types c.requires.down c.args.id d at c.in-Alias.ty is) c.requires.few in
     search rules
 
@@ -89,7 +93,7 @@ lower_id-lower_by-requires-in-Flags g t c =
     let at = entry_at types c.as_slice-types.result.now c.args.id.0 d c.as_slice-types.ensures c.requires.within c.index-types-at.is in
     let members = c.in-Flags.field-0 in
     let is = kind_at c.as_slice-types.result.now c.args.id.0 d (kind.Flags members) c.index-types-at.is c.in-Flags.is in
-    record { built = refl; operands = refl; suits = (length members, (members, record { entry = d; stands = at; kind = is }, refl)) }
+    record { built = refl; operands = refl; suits = (length members, (members, record { entry = d; stands = at; kind = is }, refl), c.requires.writes c.args.id reaches_itself) }
 
 pub lower_id-returns-in_ok-words-in-Flags : goal.lower_id-returns-in_ok-words-in-Flags
 lower_id-returns-in_ok-words-in-Flags g t c =
@@ -107,7 +111,7 @@ lower_id-returns-in_ok-words-in-Flags g t c =
     }
 
 pub lower_record-lower_by-requires : goal.lower_record-lower_by-requires
-lower_record-lower_by-requires g t c = record { built = refl; operands = refl; suits = (c.args.members.now, record { entry = c.requires.here.entry; at = c.requires.here.stands; kind = c.requires.here.kind }) }
+lower_record-lower_by-requires g t c = record { built = refl; operands = refl; suits = (c.args.members.now, record { entry = c.requires.here.entry; at = c.requires.here.stands; kind = c.requires.here.kind }, c.requires.writes c.args.id reaches_itself) }
 
 pub lower_record-lower_parts-requires : goal.lower_record-lower_parts-requires
 lower_record-lower_parts-requires g t c κs within =
@@ -123,6 +127,7 @@ lower_record-lower_parts-requires g t c κs within =
     let enough : length c.in_ok-parts.parts ≡ length read = made ∙ sym (ap length same ∙ length-map members (λ (f : Field). f.ty)) in
     let side = side_later m _ _ c.args.realloc c.in_ok-parts.ensures.adds.grows c.requires.side in
     let served = subst (λ (xs : List WitType). ServesAll (shapes_of types xs)) (sym same) (record_served types c.requires.down c.args.id.0 here.entry here.stands c.requires.serves members here.kind) in
+    let writes = each_later m types _ _ read c.in_ok-parts.ensures.adds.grows (subst (λ (xs : List WitType). WritesEach m types xs c.args.bindgen.now) (sym same) (record_written m types c.args.id here.entry here.stands c.args.bindgen.now c.requires.writes members here.kind)) in
     let few : word_counts types read ≤ 16 = subst (λ (xs : List WitType). word_counts types xs ≤ 16) (sym same) (subst (λ n. n ≤ 16) (record_words types c.requires.down c.args.id here.entry here.stands members here.kind) c.requires.few) in
     search rules
 
@@ -152,6 +157,7 @@ lower_tuple-lower_parts-requires g t c κs within =
     let enough : length c.in_ok-parts.parts ≡ length read = c.in_ok-parts.ensures.results ∙ c.part_count.ensures in
     let side = side_later m _ _ c.args.realloc c.in_ok-parts.ensures.adds.grows c.requires.side in
     let served = subst (λ (xs : List WitType). ServesAll (shapes_of types xs)) (sym c.as_slice-tys.ensures) (tuple_served types c.requires.down c.args.id.0 here.entry here.stands c.requires.serves c.args.members.now here.kind) in
+    let writes = each_later m types _ _ read c.in_ok-parts.ensures.adds.grows (subst (λ (xs : List WitType). WritesEach m types xs c.args.bindgen.now) (sym c.as_slice-tys.ensures) (tuple_written m types c.args.id here.entry here.stands c.args.bindgen.now c.requires.writes c.args.members.now here.kind)) in
     let few : word_counts types read ≤ 16 = subst (λ (xs : List WitType). word_counts types xs ≤ 16) (sym c.as_slice-tys.ensures) (subst (λ n. n ≤ 16) (tuple_words types c.requires.down c.args.id here.entry here.stands c.args.members.now here.kind) c.requires.few) in
     search rules
 
@@ -181,6 +187,7 @@ lower_parts-lower_type-requires g t c κs within =
     let below = part_below_table c.args.at c.args.tys.now c.requires.below c.loop-i.i wit.Bool short (length types) c.requires.within in
     let side = side_later m _ _ c.args.realloc c.loop-i.invariant.adds.grows c.requires.side in
     let served = part_served types c.args.tys.now c.loop-i.i wit.Bool c.requires.serves short in
+    let writes = writes_later m types _ _ (get_or c.args.tys.now c.loop-i.i wit.Bool) c.loop-i.invariant.adds.grows (one_written m types c.args.bindgen.now c.args.tys.now c.loop-i.i wit.Bool c.requires.writes short) in
     let few : word_count types (get_or c.args.tys.now c.loop-i.i wit.Bool) ≤ 16 = omega (arith, part_few types c.args.tys.now c.loop-i.i wit.Bool short, c.requires.few) in
     search rules
 
@@ -260,6 +267,7 @@ lower_cases-lower_case-requires g t c κs within =
     let fits : FitIn (payload_words types (get_or payloads i None)) (take (f.count - 1) (drop 1 f.words)) = subst (FitIn (payload_words types (get_or payloads i None))) (sym told) (payload_fits types payloads i None short) in
     let sixteen : length (take (f.count - 1) (drop 1 f.words)) ≤ 16 = omega (arith, ap length told, case_count types c.args.id payloads c.requires.cases, c.requires.sixteen) in
     let side = side_later m _ _ c.args.realloc c.loop-i.invariant.grows c.requires.side in
+    let writes = part_later m types _ _ (get_or payloads i None) c.loop-i.invariant.grows (payload_written m types c.args.bindgen.now payloads i None c.requires.writes short) in
     search rules
 
 pub lower_cases-loop-i-init : goal.lower_cases-loop-i-init
@@ -378,6 +386,7 @@ lower_payload-returns g t c =
 
 pub lower_variant-lower_cases-requires : goal.lower_variant-lower_cases-requires
 lower_variant-lower_cases-requires g t c κs within =
+    let m = g.B.Bindgen.meaning in
     let types = c.args.resolve.now.types in
     let kind = c.args.kind.now in
     let here = c.requires.here in
@@ -386,6 +395,8 @@ lower_variant-lower_cases-requires g t c κs within =
     let shape : shape_at types c.args.id.0 ≡ cases (payloads_in (shapes types) c.as_slice-payloads.result.now) = variant_shape types c.requires.down c.args.id.0 kind here c.requires.cases ∙ ap (λ (ps : List (Option WitType)). cases (payloads_in (shapes types) ps)) (sym is) in
     let below : list_all (λ payload. payload_below c.args.id.0 payload) c.as_slice-payloads.result.now ≡ true =
     subst (λ (ps : List (Option WitType)). list_all (λ payload. payload_below c.args.id.0 payload) ps ≡ true) (sym is) (variant_below types c.requires.down c.args.id.0 kind here c.requires.cases) in
+    let writes : AllByRecursion (λ (p : Option WitType). WritesPart m types p c.args.bindgen.now) c.as_slice-payloads.result.now =
+    subst (λ (ps : List (Option WitType)). AllByRecursion (λ (p : Option WitType). WritesPart m types p c.args.bindgen.now) ps) (sym is) (payloads_written m types c.args.id here.entry here.stands c.args.bindgen.now c.requires.writes kind c.requires.cases here.kind) in
     search rules
 
 pub lower_variant-lower_by-requires : goal.lower_variant-lower_by-requires
@@ -398,7 +409,7 @@ lower_variant-lower_by-requires g t c =
     let many : n ≡ case_words r.types (payloads_of kind) = c.in_ok-count.ensures.words ∙ ap (case_words r.types) is in
     let blocks = subst (λ (ps : List (Option WitType)). LowersCases m c.args.realloc (payloads_in (shapes r.types) ps) 0 (shared_slots r.types ps) c.args.bindgen.now c.lower_cases.new.bindgen) is c.in_ok-count.ensures.lowers in
     subst (λ (i : Instruction). IsSendable m r i (c.args.value ∷ []) c.lower_cases.new.bindgen) (sym c.case_lowering-inst.ensures)
-    (variant_sendable m g.met.B.Bindgen.sound r c.requires.down c.args.id c.args.realloc _ _ c.requires.well kind n c.args.value c.requires.here c.requires.cases many blocks)
+    (variant_sendable m g.met.B.Bindgen.sound r c.requires.down c.args.id c.args.realloc _ _ c.requires.well (blocks.adds.grows.writes r.types c.args.id.0 (c.requires.writes c.args.id reaches_itself)) kind n c.args.value c.requires.here c.requires.cases many blocks)
 
 pub lower_variant-returns : goal.lower_variant-returns
 lower_variant-returns g t c =
@@ -436,5 +447,8 @@ lower_tuple-part_count-requires g t c = record { short = omega (arith, ap length
 
 pub lower_payload-lower_type-requires : goal.lower_payload-lower_type-requires
 lower_payload-lower_type-requires g t c κs within =
+    let types = c.args.resolve.now.types in
+    let opened : Writes g.B.Bindgen.meaning types c.args.ty c.push_block.new.self = λ id reached. c.in_ok-push_block.ensures.lasts.writes types id.0 (c.requires.writes id reached) in
+    let writes = writes_later g.B.Bindgen.meaning types _ _ c.args.ty c.in_ok-tag.ensures.adds.grows (writes_later g.B.Bindgen.meaning types _ _ c.args.ty c.in_ok-payload.ensures.adds.grows opened) in
     let few = few_words c.args.resolve.now.types c.args.ty c.args.slots.now c.requires.fits c.requires.sixteen in
     search rules

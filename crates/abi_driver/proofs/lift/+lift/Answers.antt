@@ -1,8 +1,9 @@
 use Rattle.std.proofs.Common.{rules, ◌-◌, drop, take, Option, None, Some, option_map, refl, ◌≡◌, ◌<◌, ◌≤◌, ◌+◌, true, List, [], ◌∷◌, ◌++◌, length, map, get_or, IfOk, OnOk, sym, ap, ◌∙◌, subst, arith}
-use Rattle.std.specs.List.{list_all}
+use Rattle.std.specs.List.{AllByRecursion, list_all}
 use Rattle.std.proofs.lemmas.Bool.{lt-ltb, ltb-true}
 use Rattle.std.proofs.lemmas.List.{drop-drop, drop_all, drop_more, length-append, length-drop, length-map, length-take-le, take-append-drop}
 use Rattle.std.proofs.lemmas.Option.{slice_get_within}
+use Rattle.wit_model.specs.Reaches.{reaches_itself}
 use Rattle.wit_model.specs.TypeOrder.{payload_below, type_below}
 use Rattle.wit_model.specs.declared.types.Field.{Field}
 use Rattle.wit_model.specs.declared.types.TypeDef.{TypeDef}
@@ -27,16 +28,19 @@ use Rattle.abi_bindgen.specs.Sent.{Sent, closes, sends}
 use Rattle.abi_bindgen.specs.Served.{Serves, ServesAll}
 use Rattle.abi_bindgen.specs.SlotCasts.{AreOrdered, CastsAll, FitIn}
 use Rattle.abi_bindgen.proofs.BlockRuns.{grows_alike, grows_none}
+use Rattle.abi_bindgen.proofs.Runs.{adds_both, adds_same}
 use Rattle.abi_driver.proofs.CaseLifts.{full_lifts}
 use Rattle.abi_driver.proofs.LiftedVariants.{all_used, lifting_makes, lifts_done, lifts_next, variant_liftable, variant_lifts}
 use Rattle.abi_bindgen.proofs.Payloads.{count_told, payload_count, payload_in_table, payload_ranked, payload_told, slots_told, variant_below, variant_shape, payload_some}
 use Rattle.abi_bindgen.proofs.WordBits.{fit_length, of_slots, payload_fits}
 use Rattle.abi_bindgen.proofs.FlatCode.{lift_alias_code, lift_record_code, lift_tuple_code, lift_variant_code}
 use Rattle.abi_bindgen.specs.WordCount.{word_count, word_counts}
+use Rattle.abi_bindgen.specs.Written.{Writes, WritesEach, WritesPart}
 use Rattle.abi_driver.proofs.LiftedArguments.{words_left, words_next}
 use Rattle.abi_driver.proofs.LiftSteps.{lifts_all_as, lifts_as, record_lifts, rest_last, rest_next, scalar_words, tuple_lifts}
 use Rattle.abi_bindgen.proofs.Records.{alias_below, alias_rank, alias_shape, count-shapes, drop-same, entry_at, kind_at, one_record, part_below_within, part_ranked, payload_type_low, record_below, record_shape, tuple_below, tuple_shape, tuple_short}
 use Rattle.abi_bindgen.proofs.Serving.{alias_served, enum_served, other_refused, part_served, payload_served, payloads_served, record_served, tuple_served}
+use Rattle.abi_bindgen.proofs.Writing.{alias_written, one_written, part_later, payload_written, payloads_written, record_written, tuple_written, writes_later}
 use Rattle.abi_bindgen.proofs.WordCounts.{alias_words, enum_words, few_words, flags_words, no_more, record_words, tuple_words, variant_words}
 use Rattle.abi_bindgen.proofs.SendSteps.{sends_as, sends_both, sends_last, sends_next, sends_one}
 use Rattle.abi_driver.proofs.lift.+lift.Goals as goal
@@ -66,9 +70,10 @@ lift_type-lift_id-requires g t c κs within =
     let types = c.args.resolve.now.types in
     let inside : c.in-Id.id.0 < n = ltb-true c.in-Id.id.0 n (ap (type_below n) (sym c.in-Id.is) ∙ c.requires.below) in
     let serves = subst (λ (ty : WitType). Serves (shape_of types ty)) c.in-Id.is c.requires.serves in
+    let writes = subst (λ (ty : WitType). Writes g.B.Bindgen.meaning types ty c.args.bindgen.now) c.in-Id.is c.requires.writes in
     let few = subst (λ (ty : WitType). word_count types ty ≤ 16) c.in-Id.is c.requires.few in
     let enough = subst (λ (ty : WitType). c.args.at + word_count types ty ≤ length c.args.words.now) c.in-Id.is c.requires.enough in
-    (omega arith, (within.0, (within.1, (c.requires.well, (c.requires.down, (inside, (serves, (few, enough))))))))
+    (omega arith, (within.0, (within.1, (c.requires.well, (c.requires.down, (inside, (serves, (writes, (few, enough)))))))))
 
 pub lift_type-returns-in-String : goal.lift_type-returns-in-String
 lift_type-returns-in-String g t c =
@@ -105,8 +110,9 @@ lift_id-lift_type-requires g t c κs within =
     let low : rank c.in-Alias.ty ≤ c.args.id.0 = alias_rank types c.requires.down c.args.id.0 d at c.in-Alias.ty is in
     let below = alias_below types c.requires.down c.args.id.0 d at c.in-Alias.ty is c.requires.within in
     let serves = alias_served types c.requires.down c.args.id.0 d at c.requires.serves c.in-Alias.ty is in
+    let writes = alias_written g.B.Bindgen.meaning types c.args.id d at c.args.bindgen.now c.requires.writes c.in-Alias.ty is in
     let same = alias_words types c.requires.down c.args.id d at c.in-Alias.ty is in
-    (omega (arith, low), (within.0, (within.1, (c.requires.well, (c.requires.down, (below, (serves, (omega (arith, same, c.requires.few), omega (arith, same, c.requires.enough)))))))))
+    (omega (arith, low), (within.0, (within.1, (c.requires.well, (c.requires.down, (below, (serves, (writes, (omega (arith, same, c.requires.few), omega (arith, same, c.requires.enough))))))))))
 
 pub lift_id-lift_parts-requires : goal.lift_id-lift_parts-requires
 lift_id-lift_parts-requires g t c κs within =
@@ -119,8 +125,9 @@ lift_id-lift_parts-requires g t c κs within =
     let same : read ≡ map (λ (f : Field). f.ty) members = c.as_slice-tys.ensures ∙ c.in_ok-tys-in-Record.ensures ∙ ap (map (λ (f : Field). f.ty)) c.as_slice.ensures in
     let below = subst (λ (xs : List WitType). list_all (λ ty. type_below c.args.id.0 ty) xs ≡ true) (sym same) (record_below types c.requires.down c.args.id.0 d at members is) in
     let serves = subst (λ (xs : List WitType). ServesAll (shapes_of types xs)) (sym same) (record_served types c.requires.down c.args.id.0 d at c.requires.serves members is) in
+    let writes = subst (λ (xs : List WitType). WritesEach g.B.Bindgen.meaning types xs c.args.bindgen.now) (sym same) (record_written g.B.Bindgen.meaning types c.args.id d at c.args.bindgen.now c.requires.writes members is) in
     let many = record_words types c.requires.down c.args.id d at members is ∙ ap (word_counts types) (sym same) in
-    (omega arith, (within.0, (within.1, (c.requires.well, (c.requires.down, (omega (arith, c.requires.within), (below, (serves, (omega (arith, many, c.requires.few), omega (arith, many, c.requires.enough))))))))))
+    (omega arith, (within.0, (within.1, (c.requires.well, (c.requires.down, (omega (arith, c.requires.within), (below, (serves, (writes, (omega (arith, many, c.requires.few), omega (arith, many, c.requires.enough)))))))))))
 
 pub lift_id-send_one-requires-clause-ready : goal.lift_id-send_one-requires-clause-ready
 lift_id-send_one-requires-clause-ready g t c =
@@ -132,7 +139,7 @@ lift_id-send_one-requires-clause-ready g t c =
     let same : c.as_slice-tys.result.now ≡ map (λ (f : Field). f.ty) members = c.as_slice-tys.ensures ∙ c.in_ok-tys-in-Record.ensures ∙ ap (map (λ (f : Field). f.ty)) c.as_slice.ensures in
     let here : IsRecord types c.args.id.0 members = record { entry = d; at = at; kind = is } in
     let count : length c.in_ok-lifted-in-Record.lifted.parts ≡ length members = c.in_ok-lifted-in-Record.ensures.count ∙ ap length same ∙ length-map members (λ (f : Field). f.ty) in
-    record { built = refl; operands = λ others other. count ∙ ap length (one_record types c.args.id.0 members others here other); suits = (members, here) }
+    record { built = refl; operands = λ others other. count ∙ ap length (one_record types c.args.id.0 members others here other); suits = (members, here, c.in_ok-lifted-in-Record.ensures.lifts.2.adds.grows.writes types c.args.id.0 (c.requires.writes c.args.id reaches_itself)) }
 
 pub lift_id-send_one-requires-clause-makes : goal.lift_id-send_one-requires-clause-makes
 lift_id-send_one-requires-clause-makes g t c = λ k h. h
@@ -149,8 +156,9 @@ lift_id-lift_parts-requires-in-Tuple g t c κs within =
     let is = kind_at c.as_slice-types.result.now c.args.id.0 d (kind.Tuple c.in-Tuple.members) c.index-types-place.is c.in-Tuple.is in
     let below = subst (λ (xs : List WitType). list_all (λ ty. type_below c.args.id.0 ty) xs ≡ true) (sym c.as_slice-tys-in-Tuple.ensures) (tuple_below types c.requires.down c.args.id.0 d at c.in-Tuple.members is) in
     let serves = subst (λ (xs : List WitType). ServesAll (shapes_of types xs)) (sym c.as_slice-tys-in-Tuple.ensures) (tuple_served types c.requires.down c.args.id.0 d at c.requires.serves c.in-Tuple.members is) in
+    let writes = subst (λ (xs : List WitType). WritesEach g.B.Bindgen.meaning types xs c.args.bindgen.now) (sym c.as_slice-tys-in-Tuple.ensures) (tuple_written g.B.Bindgen.meaning types c.args.id d at c.args.bindgen.now c.requires.writes c.in-Tuple.members is) in
     let many = tuple_words types c.requires.down c.args.id d at c.in-Tuple.members is ∙ ap (word_counts types) (sym c.as_slice-tys-in-Tuple.ensures) in
-    (omega arith, (within.0, (within.1, (c.requires.well, (c.requires.down, (omega (arith, c.requires.within), (below, (serves, (omega (arith, many, c.requires.few), omega (arith, many, c.requires.enough))))))))))
+    (omega arith, (within.0, (within.1, (c.requires.well, (c.requires.down, (omega (arith, c.requires.within), (below, (serves, (writes, (omega (arith, many, c.requires.few), omega (arith, many, c.requires.enough)))))))))))
 
 pub lift_id-lift_enum-requires-clause-here : goal.lift_id-lift_enum-requires-clause-here
 lift_id-lift_enum-requires-clause-here g t c =
@@ -216,7 +224,7 @@ lift_id-lift_variant-requires g t c κs within =
     let k = (get_or c.as_slice-types.result.now c.args.id.0 d).kind in
     let here : IsKindOf types c.args.id.0 k = record { entry = d; stands = at; kind = ap (λ (x : TypeDef). x.kind) c.index-types-place.is } in
     let cases : has_cases k ≡ true = ap has_cases c.in-Variant.is in
-    (omega arith, (within.0, (within.1, (c.requires.well, (c.requires.down, (here, (cases, (c.requires.serves, (c.requires.few, c.requires.enough)))))))))
+    (omega arith, (within.0, (within.1, (c.requires.well, (c.requires.down, (here, (cases, (c.requires.serves, (c.requires.writes, (c.requires.few, c.requires.enough))))))))))
 
 pub lift_id-lift_variant-requires-in-Option : goal.lift_id-lift_variant-requires-in-Option
 lift_id-lift_variant-requires-in-Option g t c κs within =
@@ -226,7 +234,7 @@ lift_id-lift_variant-requires-in-Option g t c κs within =
     let k = (get_or c.as_slice-types.result.now c.args.id.0 d).kind in
     let here : IsKindOf types c.args.id.0 k = record { entry = d; stands = at; kind = ap (λ (x : TypeDef). x.kind) c.index-types-place.is } in
     let cases : has_cases k ≡ true = ap has_cases c.in-Option.is in
-    (omega arith, (within.0, (within.1, (c.requires.well, (c.requires.down, (here, (cases, (c.requires.serves, (c.requires.few, c.requires.enough)))))))))
+    (omega arith, (within.0, (within.1, (c.requires.well, (c.requires.down, (here, (cases, (c.requires.serves, (c.requires.writes, (c.requires.few, c.requires.enough))))))))))
 
 pub lift_id-lift_variant-requires-in-Result : goal.lift_id-lift_variant-requires-in-Result
 lift_id-lift_variant-requires-in-Result g t c κs within =
@@ -236,7 +244,7 @@ lift_id-lift_variant-requires-in-Result g t c κs within =
     let k = (get_or c.as_slice-types.result.now c.args.id.0 d).kind in
     let here : IsKindOf types c.args.id.0 k = record { entry = d; stands = at; kind = ap (λ (x : TypeDef). x.kind) c.index-types-place.is } in
     let cases : has_cases k ≡ true = ap has_cases c.in-Result.is in
-    (omega arith, (within.0, (within.1, (c.requires.well, (c.requires.down, (here, (cases, (c.requires.serves, (c.requires.few, c.requires.enough)))))))))
+    (omega arith, (within.0, (within.1, (c.requires.well, (c.requires.down, (here, (cases, (c.requires.serves, (c.requires.writes, (c.requires.few, c.requires.enough))))))))))
 
 pub lift_id-returns-in-Alias : goal.lift_id-returns-in-Alias
 lift_id-returns-in-Alias g t c =
@@ -297,7 +305,7 @@ lift_id-returns-in_ok-operand-in-Tuple g t c =
 pub lift_parts-loop-i-init : goal.lift_parts-loop-i-init
 lift_parts-loop-i-init g t c =
     let Lifts : List g.row.B-Operand.Denot → List g.row.B-Operand.Denot → g.row.B.Denot → Type 0 = λ qs ps new. LiftsAll g.B.Bindgen.meaning (shapes_of c.args.resolve.now.types c.args.tys.now) qs ps c.args.bindgen.now new in
-    record { count = ap length c.new-parts.ensures; left = refl; low = omega arith; sent = refl; rest = ([], refl, λ new qs later h. subst (λ ps. Lifts qs (ps ++ later) new) (sym c.new-parts.ensures) h) }
+    record { adds = adds_same g.B.Bindgen.meaning c.args.bindgen.now; count = ap length c.new-parts.ensures; left = refl; low = omega arith; sent = refl; rest = ([], refl, λ new qs later h. subst (λ ps. Lifts qs (ps ++ later) new) (sym c.new-parts.ensures) h) }
 
 pub lift_parts-lift_type-requires : goal.lift_parts-lift_type-requires
 lift_parts-lift_type-requires g t c κs within =
@@ -307,10 +315,11 @@ lift_parts-lift_type-requires g t c κs within =
     let below = part_below_within c.args.place c.args.tys.now c.requires.below c.loop-i.i wit.Bool short (length types) c.requires.within in
     let serves = part_served types c.args.tys.now c.loop-i.i wit.Bool c.requires.serves short in
     let inv = c.loop-i.invariant in
+    let writes = writes_later g.B.Bindgen.meaning types _ _ (get_or c.args.tys.now c.loop-i.i wit.Bool) inv.adds.grows (one_written g.B.Bindgen.meaning types c.args.bindgen.now c.args.tys.now c.loop-i.i wit.Bool c.requires.writes short) in
     let next = words_next types c.args.tys.now c.loop-i.i (get_or c.args.tys.now c.loop-i.i wit.Bool) (drop_more c.args.tys.now c.loop-i.i wit.Bool short) in
     let few : word_count types (get_or c.args.tys.now c.loop-i.i wit.Bool) ≤ 16 = omega (arith, next, inv.left, inv.low, c.requires.few) in
     let enough : c.loop-i.next + word_count types (get_or c.args.tys.now c.loop-i.i wit.Bool) ≤ length c.args.words.now = omega (arith, next, inv.left, c.requires.enough) in
-    (omega (arith, low), (within.0, (within.1, (c.requires.well, (c.requires.down, (below, (serves, (few, enough))))))))
+    (omega (arith, low), (within.0, (within.1, (c.requires.well, (c.requires.down, (below, (serves, (writes, (few, enough)))))))))
 
 pub lift_parts-loop-i-preserved : goal.lift_parts-loop-i-preserved
 lift_parts-loop-i-preserved g t c =
@@ -318,6 +327,7 @@ lift_parts-loop-i-preserved g t c =
     let short : c.loop-i.i < length c.args.tys.now = omega (arith, c.loop-i-test.true) in
     let next = words_next c.args.resolve.now.types c.args.tys.now c.loop-i.i (get_or c.args.tys.now c.loop-i.i wit.Bool) (drop_more c.args.tys.now c.loop-i.i wit.Bool short) in
     record {
+      adds = adds_both m _ _ _ c.loop-i.invariant.adds c.in_ok-lifted.ensures.lifts.2.adds;
       left = omega (arith, next, c.loop-i.invariant.left, c.in_ok-lifted.ensures.next);
       low = omega (arith, c.loop-i.invariant.low, c.in_ok-lifted.ensures.next);
       count = ap length c.in_ok-push.ensures.ok ∙ length-append c.loop-i.parts (c.in_ok-lifted.lifted.operand ∷ []) ∙ ap (λ n. n + 1) c.loop-i.invariant.count;
@@ -353,8 +363,9 @@ lift_cases-lift_case-requires g t c κs within =
     let low : payload_rank (get_or payloads i None) ≤ c.args.id.0 = payload_ranked c.args.id.0 payloads i None c.requires.below short in
     let below : payload_below (length types) (get_or payloads i None) ≡ true = payload_in_table c.args.id.0 (length types) payloads i None c.requires.within c.requires.below short in
     let serves = payload_served types payloads i None c.requires.serves short in
+    let writes = part_later g.B.Bindgen.meaning types _ _ (get_or payloads i None) c.loop-i.invariant.grows (payload_written g.B.Bindgen.meaning types c.args.bindgen.now payloads i None c.requires.writes short) in
     let fits : FitIn (payload_words types (get_or payloads i None)) c.args.slots.now = subst (FitIn (payload_words types (get_or payloads i None))) (sym c.requires.shared) (payload_fits types payloads i None short) in
-    (omega (arith, low), (within.0, (within.1, (c.requires.well, (c.requires.down, (below, (serves, (fits, (c.requires.few, c.requires.enough)))))))))
+    (omega (arith, low), (within.0, (within.1, (c.requires.well, (c.requires.down, (below, (serves, (writes, (fits, (c.requires.few, c.requires.enough))))))))))
 
 pub lift_cases-loop-i-init : goal.lift_cases-loop-i-init
 lift_cases-loop-i-init g t c = record { grows = grows_none g.B.Bindgen.meaning c.args.bindgen.now; code = refl; sent = refl; rest = λ new h. h }
@@ -430,7 +441,9 @@ lift_payload-lift_type-requires g t c κs within =
     let most = fit_length (payload_words types (Some c.args.ty)) slots c.requires.fits in
     let many = length-take-le f.count slots (omega (arith, is, most)) in
     let enough : 0 + word_count types c.args.ty ≤ length c.as_slice.result.now = omega (arith, ap length c.as_slice.ensures, c.in_ok-used.ensures.casts.fits, many, is) in
-    (omega arith, (within.0, (within.1, (c.requires.well, (c.requires.down, (c.requires.below, (c.requires.serves, (few, enough))))))))
+    let opened : Writes g.B.Bindgen.meaning types c.args.ty c.push_block.new.self = λ id reached. c.in_ok-push_block.ensures.lasts.writes types id.0 (c.requires.writes id reached) in
+    let writes = writes_later g.B.Bindgen.meaning types _ _ c.args.ty c.in_ok-used.ensures.casts.adds.grows opened in
+    (omega arith, (within.0, (within.1, (c.requires.well, (c.requires.down, (c.requires.below, (c.requires.serves, (writes, (few, enough)))))))))
 
 pub lift_payload-close_payload-requires : goal.lift_payload-close_payload-requires
 lift_payload-close_payload-requires g t c =
@@ -496,12 +509,13 @@ lift_variant-lift_cases-requires g t c κs within =
     let below : list_all (λ payload. payload_below c.args.id.0 payload) c.as_slice-payloads.result.now ≡ true =
     subst (λ (ps : List (Option WitType)). list_all (λ payload. payload_below c.args.id.0 payload) ps ≡ true) (sym same) (variant_below types c.requires.down c.args.id.0 kind here c.requires.cases) in
     let serves = subst (λ (ps : List (Option WitType)). ServesAll (payloads_in (shapes types) ps)) (sym same) (payloads_served types c.args.id.0 (payloads_of kind) shape c.requires.serves) in
+    let writes = subst (λ (ps : List (Option WitType)). AllByRecursion (λ (p : Option WitType). WritesPart g.B.Bindgen.meaning types p c.args.bindgen.now) ps) (sym same) (payloads_written g.B.Bindgen.meaning types c.args.id here.entry here.stands c.args.bindgen.now c.requires.writes kind c.requires.cases here.kind) in
     let shared : take (f.count - 1) (drop 1 f.words) ≡ shared_slots types c.as_slice-payloads.result.now = told ∙ ap (shared_slots types) (sym same) in
     let n = c.args.at + f.count - (c.args.at + 1) in
     let room : n ≤ length (drop (c.args.at + 1) words) = omega (arith, is, variant_words types c.requires.down c.args.id kind c.requires.here c.requires.cases, c.requires.enough, length-drop (c.args.at + 1) words) in
     let enough : length (take n (drop (c.args.at + 1) words)) ≡ length (take (f.count - 1) (drop 1 f.words)) = length-take-le n (drop (c.args.at + 1) words) room ∙ (let e : n ≡ length (shared_slots types (payloads_of kind)) = omega (arith, is) in e) ∙ sym (ap length told) in
     let few : length (take (f.count - 1) (drop 1 f.words)) ≤ 16 = omega (arith, ap length told, variant_words types c.requires.down c.args.id kind here c.requires.cases, c.requires.few) in
-    (omega arith, (within.0, (within.1, (c.requires.well, (c.requires.down, (inside, (below, (serves, (shared, (few, enough))))))))))
+    (omega arith, (within.0, (within.1, (c.requires.well, (c.requires.down, (inside, (below, (serves, (writes, (shared, (few, enough)))))))))))
 
 pub lift_variant-returns : goal.lift_variant-returns
 lift_variant-returns g t c =
@@ -544,8 +558,9 @@ lift_case-lift_payload-requires g t c κs within =
     let deep : payload_rank c.args.payload ≡ rank c.in-Some.ty = ap payload_rank c.in-Some.is in
     let below = payload_type_low (length types) c.in-Some.ty (subst (λ (p : Option WitType). payload_below (length types) p ≡ true) c.in-Some.is c.requires.below) in
     let serves = subst (λ (p : Option WitType). Serves (payload_in (shapes types) p)) c.in-Some.is c.requires.serves in
+    let writes = subst (λ (p : Option WitType). WritesPart g.B.Bindgen.meaning types p c.args.bindgen.now) c.in-Some.is c.requires.writes in
     let fits = subst (λ (p : Option WitType). FitIn (payload_words types p) c.args.slots.now) c.in-Some.is c.requires.fits in
-    (omega (arith, deep), (within.0, (within.1, (c.requires.well, (c.requires.down, (below, (serves, (fits, (c.requires.few, c.requires.enough)))))))))
+    (omega (arith, deep), (within.0, (within.1, (c.requires.well, (c.requires.down, (below, (serves, (writes, (fits, (c.requires.few, c.requires.enough))))))))))
 
 pub lift_case-returns-in_ok-lift_bare-in-None : goal.lift_case-returns-in_ok-lift_bare-in-None
 lift_case-returns-in_ok-lift_bare-in-None g t c =
@@ -676,7 +691,7 @@ lift_variant-send_one-requires g t c =
     let shared = take (c.args.at + f.count - (c.args.at + 1)) (drop (c.args.at + 1) c.args.words.now) in
     let blocks = subst (λ (ds : List WasmType). LiftsCases m (payloads_in (shapes types) (payloads_of kind)) (result_counts (payloads_of kind)) ds shared c.args.bindgen.now c.lift_cases.new.bindgen) told
     (subst (λ (ps : List (Option WitType)). LiftsCases m (payloads_in (shapes types) ps) (result_counts ps) (take (f.count - 1) (drop 1 f.words)) shared c.args.bindgen.now c.lift_cases.new.bindgen) same c.in_ok-lift_cases.ensures.lifts) in
-    let ready = variant_liftable m g.met.B.Bindgen.sound r c.requires.down c.args.id _ _ shared c.requires.well kind c.in_ok-tag.tag c.requires.here c.requires.cases blocks in
+    let ready = variant_liftable m g.met.B.Bindgen.sound r c.requires.down c.args.id _ _ shared c.requires.well (blocks.adds.grows.writes types c.args.id.0 (c.requires.writes c.args.id reaches_itself)) kind c.in_ok-tag.tag c.requires.here c.requires.cases blocks in
     record {
       ready = subst (λ (i : Instruction). IsSendable m r i c.in_ok-operands.operands c.lift_cases.new.bindgen) (sym c.case_lifting.ensures)
           (subst (λ (os : List g.row.B-Operand.Denot). IsSendable m r (case_lifting kind c.args.id) os c.lift_cases.new.bindgen) (sym c.in_ok-operands.ensures) ready);

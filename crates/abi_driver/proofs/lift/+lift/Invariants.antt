@@ -4,7 +4,7 @@ use Rattle.wit_layout.proofs.FlattenSteps.{payload_rank, rank}
 use Rattle.abi_bindgen.specs.CaseBlocks.{LiftsCases}
 use Rattle.abi_bindgen.specs.Cases.{result_counts}
 use Rattle.abi_bindgen.specs.Code.{each, lift_case, lift_code, shared_slots}
-use Rattle.abi_bindgen.specs.Laws.{Grows}
+use Rattle.abi_bindgen.specs.Laws.{Adds, Grows}
 use Rattle.abi_bindgen.specs.Instructions.{shapes_of}
 use Rattle.abi_bindgen.specs.Lifts.{LiftsAll}
 use Rattle.abi_bindgen.specs.Sends.{Sends}
@@ -39,6 +39,7 @@ invariant-lift_parts-loop-i g l =
     let m = g.B.Bindgen.meaning in
     let types = l.resolve.types in
     record {
+      adds : Adds m l.initial.bindgen l.bindgen;
       count : length l.parts ≡ l.i;
       left : l.next + words_left types l.tys l.i ≡ l.at + word_counts types l.tys;
       low : l.at ≤ l.next;

@@ -1,3 +1,6 @@
+use Rattle.std.proofs.Common.{List, Option, sym, subst}
+use Rattle.func_gen.specs.declared.type_site.TypeSite.{TypeSite}
+use Rattle.wrapper_closing.specs.Parts.{CanWriteFunction}
 use Rattle.rust_gen.proofs.export.export_code.Goals as goal
 
 pub export_body-requires-clause-serves : goal.export_body-requires-clause-serves
@@ -5,3 +8,6 @@ export_body-requires-clause-serves c = c.requires.code.serves
 
 pub export_body-requires-clause-small : goal.export_body-requires-clause-small
 export_body-requires-clause-small c = c.requires.code.small
+
+pub export_body-requires-clause-writes : goal.export_body-requires-clause-writes
+export_body-requires-clause-writes c = subst (λ (sites : List (Option TypeSite)). CanWriteFunction c.args.resolve.now.types sites c.args.f.now) (sym c.in_ok-parts.ensures.written) c.requires.writes

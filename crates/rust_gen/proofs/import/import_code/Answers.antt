@@ -1,6 +1,8 @@
-use Rattle.std.proofs.Common.{ap, length, ◌∙◌}
+use Rattle.std.proofs.Common.{List, Option, ap, length, sym, subst, ◌∙◌}
 use Rattle.std.proofs.lemmas.List.{length-map}
+use Rattle.func_gen.specs.declared.type_site.TypeSite.{TypeSite}
 use Rattle.wrapper_closing.specs.ImportBlock.{block_of}
+use Rattle.wrapper_closing.specs.Parts.{CanWriteFunction}
 use Rattle.rust_gen.specs.Body.{import_site}
 use Rattle.rust_gen.proofs.PartsOfBodies.{given-tables, same-sites}
 use Rattle.rust_gen.proofs.import.import_code.Goals as goal
@@ -12,6 +14,7 @@ import_body-requires c = record {
   serves = c.requires.code.serves;
   small = c.requires.code.small;
   parts = c.in_ok-parts.ensures.are;
+  writes = subst (λ (sites : List (Option TypeSite)). CanWriteFunction c.args.resolve.now.types sites c.args.f.now) (sym c.in_ok-parts.ensures.written) c.requires.writes;
   many = ap length c.in_ok-parts.ensures.params ∙ length-map c.args.f.now.params import_site;
 }
 

@@ -1,18 +1,21 @@
 use Rattle.std.proofs.Common.{◌++◌, ◌∙◌, ap, map, refl, subst, sym}
-use Rattle.std.specs.List.{AllZip}
+use Rattle.std.specs.List.{AllByRecursion, AllZip}
 use Rattle.rust_tree.specs.declared.item.Item.TheVariants as item
 use Rattle.rust_tree.specs.Asked.{asked_in}
 use Rattle.gen_accept.specs.Emitted.{exported_functions, functions_in, imported_functions}
 use Rattle.type_defs.specs.Defined.{AreDefinitions}
 use Rattle.gen_accept.specs.TypeOpts.{type_opts}
+use Rattle.func_gen.specs.Whole.{IsSmall}
 use Rattle.type_sites.specs.Sites.{type_sites}
 use Rattle.type_sites.proofs.SitesDefined.{sites-can-be-defined}
 use Rattle.rust_gen.specs.Asking.{ExportAsks, asked_order, asking_items, bare}
 use Rattle.rust_gen.specs.Exported.{last_macro}
-use Rattle.rust_gen.specs.Known.{HaveCode}
+use Rattle.rust_gen.specs.Known.{CanWriteFunctions, HaveCode}
 use Rattle.rust_gen.specs.Runtime.{runtime_items}
+use Rattle.rust_gen.proofs.OwnNames.{exports-can-be-written, imports-can-be-written}
 use Rattle.rust_gen.proofs.OrderLemmas.{exports-written, imports-written, order-made, serves-order}
 use Rattle.rust_gen.proofs.TreeLemmas.{all-made, own-made}
+use Rattle.rust_gen.proofs.WrapperLemmas.{areas-small}
 use Rattle.rust_gen.proofs.tree.world_items.Goals as goal
 
 pub push_wrappers-requires-clause-types : goal.push_wrappers-requires-clause-types
@@ -35,6 +38,22 @@ pub push_wrappers-requires-clause-exports_code : goal.push_wrappers-requires-cla
 push_wrappers-requires-clause-exports_code c =
     let methods = ap (map (λ f. f.now)) c.as_slice-exports.ensures.value ∙ c.in_ok-exports.ensures ∙ ap functions_in c.as_slice-2.ensures in
     subst (HaveCode c.args.resolve.now.types) (sym methods) c.requires.exports_code
+
+pub push_wrappers-requires-clause-imports_write : goal.push_wrappers-requires-clause-imports_write
+push_wrappers-requires-clause-imports_write c = imports-can-be-written c.args.opts.now c.args.resolve.now c.args.id c.args.world.now c.requires
+
+pub push_wrappers-requires-clause-exports_write : goal.push_wrappers-requires-clause-exports_write
+push_wrappers-requires-clause-exports_write c =
+    let methods = ap (map (λ f. f.now)) c.as_slice-exports.ensures.value ∙ c.in_ok-exports.ensures ∙ ap functions_in c.as_slice-2.ensures in
+    subst (CanWriteFunctions c.args.resolve.now.types (type_sites c.args.resolve.now c.args.world.now)) (sym methods)
+    (exports-can-be-written c.args.opts.now c.args.resolve.now c.args.id c.args.world.now c.requires)
+
+pub push_area-requires : goal.push_area-requires
+push_area-requires c =
+    let types = c.args.resolve.now.types in
+    let sites = type_sites c.args.resolve.now c.args.world.now in
+    let (is, es, pushed, areas, adds, wraps, exported) = c.in_ok-areas.ensures in
+    record { small = subst (AllByRecursion IsSmall) (sym (c.as_slice-3.ensures ∙ areas)) (areas-small types sites _ (bare es) (exports-written types sites _ es exported)) }
 
 -- the items before the runtime items, step by step, and then those behind them
 pub returns-clause-order : goal.returns-clause-order

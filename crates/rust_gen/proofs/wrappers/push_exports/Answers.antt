@@ -1,7 +1,9 @@
-use Rattle.std.proofs.Common.{◌≡◌, true, [], ◌∷◌, ◌++◌, ◌∙◌, ap, arith, subst, sym}
+use Rattle.std.proofs.Common.{◌≡◌, true, List, [], ◌∷◌, ◌++◌, Option, ◌∙◌, ap, arith, subst, sym}
 use Rattle.std.specs.Prelude.{option_to_list}
 use Rattle.std.specs.List.{flat_map}
 use Rattle.wit_model.specs.IndexRange.{function_in_range}
+use Rattle.func_gen.specs.declared.type_site.TypeSite.{TypeSite}
+use Rattle.wrapper_closing.specs.Parts.{CanWriteFunction}
 use Rattle.rust_gen.specs.Asking.{ExportAsks, bare}
 use Rattle.rust_gen.specs.Bound.{areas_of, export_items}
 use Rattle.rust_gen.specs.Known.{HasCode, sites_in}
@@ -16,6 +18,12 @@ push_export-requires-clause-within c =
 pub push_export-requires-clause-code : goal.push_export-requires-clause-code
 push_export-requires-clause-code c =
     at-loop (HasCode c.args.resolve.now.types) c.args.functions.now c.requires.code c.loop-function.function-index c.function-item.result (omega arith) c.function-item.is
+
+-- the tables are handed back with the same sites
+pub push_export-requires-clause-writes : goal.push_export-requires-clause-writes
+push_export-requires-clause-writes c =
+    subst (λ (sites : List (Option TypeSite)). CanWriteFunction c.args.resolve.now.types sites c.function-item.result.now) (sym c.loop-function.invariant.1)
+    (at-loop (CanWriteFunction c.args.resolve.now.types (sites_in c.args.tables.now)) c.args.functions.now c.requires.writes c.loop-function.function-index c.function-item.result (omega arith) c.function-item.is)
 
 pub push_export-requires-clause-tables : goal.push_export-requires-clause-tables
 push_export-requires-clause-tables c = c.loop-function.invariant.0

@@ -1,9 +1,11 @@
-use Rattle.std.proofs.Common.{◌≡◌, true, [], ◌∷◌, ◌++◌, ◌∙◌, ap, map, sym, append_assoc, arith, subst}
+use Rattle.std.proofs.Common.{◌≡◌, true, List, [], ◌∷◌, ◌++◌, Option, ◌∙◌, ap, map, sym, append_assoc, arith, subst}
 use Rattle.std.proofs.lemmas.List.{map-append}
 use Rattle.wit_model.specs.Distinct.{is_distinct}
 use Rattle.wit_model.specs.IndexRange.{function_in_range}
 use Rattle.rust_tree.specs.declared.item.Item.TheVariants as item
 use Rattle.gen_accept.specs.DeclaredNames.{param_idents}
+use Rattle.func_gen.specs.declared.type_site.TypeSite.{TypeSite}
+use Rattle.wrapper_closing.specs.Parts.{CanWriteFunction}
 use Rattle.rust_gen.specs.Asking.{ImportAsks, bare}
 use Rattle.rust_gen.specs.Known.{HasCode, sites_in}
 use Rattle.rust_gen.proofs.OrderLemmas.{asked-more, bare-more}
@@ -21,6 +23,12 @@ push_import-requires-clause-distinct c =
 pub push_import-requires-clause-code : goal.push_import-requires-clause-code
 push_import-requires-clause-code c =
     at-loop (HasCode c.args.resolve.now.types) c.args.functions.now c.requires.code c.loop-function.function-index c.function-item.result (omega arith) c.function-item.is
+
+-- the tables are handed back with the same sites
+pub push_import-requires-clause-writes : goal.push_import-requires-clause-writes
+push_import-requires-clause-writes c =
+    subst (λ (sites : List (Option TypeSite)). CanWriteFunction c.args.resolve.now.types sites c.function-item.result.now) (sym c.loop-function.invariant.1)
+    (at-loop (CanWriteFunction c.args.resolve.now.types (sites_in c.args.tables.now)) c.args.functions.now c.requires.writes c.loop-function.function-index c.function-item.result (omega arith) c.function-item.is)
 
 pub push_import-requires-clause-tables : goal.push_import-requires-clause-tables
 push_import-requires-clause-tables c = c.loop-function.invariant.0

@@ -1,10 +1,11 @@
-use Rattle.std.proofs.Common.{◌≡◌, ◌++◌, ◌∙◌, ap, map, subst, sym}
+use Rattle.std.proofs.Common.{◌≡◌, ◌++◌, ◌∙◌, List, Option, ap, map, subst, sym}
 use Rattle.std.specs.List.{AllZip, flat_map}
 use Rattle.gen_accept.specs.Emitted.{functions_in, imported_functions}
+use Rattle.func_gen.specs.declared.type_site.TypeSite.{TypeSite}
 use Rattle.type_sites.specs.Sites.{type_sites}
 use Rattle.rust_gen.specs.Asking.{ExportAsks, ImportAsks, asked_with, bare}
 use Rattle.rust_gen.specs.Bound.{export_items}
-use Rattle.rust_gen.specs.Known.{HaveCode, sites_in}
+use Rattle.rust_gen.specs.Known.{CanWriteFunctions, HaveCode, sites_in}
 use Rattle.rust_gen.proofs.wrappers.push_wrappers.Goals as goal
 
 pub push_imports-requires-clause-facts : goal.push_imports-requires-clause-facts
@@ -14,6 +15,19 @@ pub push_imports-requires-clause-code : goal.push_imports-requires-clause-code
 push_imports-requires-clause-code c =
     let functions = ap (map (λ f. f.now)) c.as_slice-2.ensures.value ∙ c.in_ok-imports.ensures ∙ ap functions_in c.as_slice.ensures in
     subst (HaveCode c.args.resolve.now.types) (sym functions) c.requires.imports_code
+
+pub push_imports-requires-clause-writes : goal.push_imports-requires-clause-writes
+push_imports-requires-clause-writes c =
+    let types = c.args.resolve.now.types in
+    let functions = ap (map (λ f. f.now)) c.as_slice-2.ensures.value ∙ c.in_ok-imports.ensures ∙ ap functions_in c.as_slice.ensures in
+    let known = c.in_ok-tables.ensures.sites c.args.world.now c.requires.found c.requires.shallow in
+    subst (λ (sites : List (Option TypeSite)). CanWriteFunctions types sites (map (λ f. f.now) c.as_slice-2.result.now)) (sym known)
+    (subst (CanWriteFunctions types (type_sites c.args.resolve.now c.args.world.now)) (sym functions) c.requires.imports_write)
+
+pub push_exports-requires-clause-writes : goal.push_exports-requires-clause-writes
+push_exports-requires-clause-writes c =
+    let known = c.in_ok-tables.ensures.sites c.args.world.now c.requires.found c.requires.shallow in
+    subst (λ (sites : List (Option TypeSite)). CanWriteFunctions c.args.resolve.now.types sites (map (λ f. f.now) c.args.exports.now)) (sym (c.in_ok-push_imports.ensures.same ∙ known)) c.requires.exports_write
 
 -- the tables that each body hands back are those of the world
 pub returns : goal.returns

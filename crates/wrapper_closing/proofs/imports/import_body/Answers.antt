@@ -7,10 +7,14 @@ use Rattle.wrapper_closing.proofs.CallsKept.{import_closed, import_uncalled}
 use Rattle.wrapper_closing.proofs.HandedBack.{handed_back}
 use Rattle.wrapper_closing.proofs.Returned.{import_few}
 use Rattle.wrapper_closing.proofs.StepsDeclare.{none_open}
+use Rattle.wrapper_closing.proofs.WrittenParts.{made_writes}
 use Rattle.wrapper_closing.proofs.imports.import_body.Goals as goal
 
 pub call-requires-clause-fresh : goal.call-requires-clause-fresh
 call-requires-clause-fresh c = let begins = c.in_ok-bindgen.ensures.begins in record { closed = begins.closed; unasked = begins.unasked; uncalled = begins.uncalled }
+
+pub call-requires-clause-writes : goal.call-requires-clause-writes
+call-requires-clause-writes c = made_writes c.args.resolve.now.types c.args.func.now true c.args.parts c.in_ok-bindgen.bindgen c.in_ok-bindgen.ensures.made c.requires.writes
 
 pub finish-body-requires-clause-closed : goal.finish-body-requires-clause-closed
 finish-body-requires-clause-closed c =

@@ -2,7 +2,11 @@ use Rattle.wrapper_meaning.specs.Shape.Shape.{fields}
 use Rattle.abi_bindgen.specs.Code.{ask_for, store_arguments}
 use Rattle.abi_bindgen.specs.Instructions.{shapes_of}
 use Rattle.abi_bindgen.proofs.SendSteps.{sends_both}
+use Rattle.abi_bindgen.proofs.Writing.{each_later}
 use Rattle.abi_driver.proofs.calls.area.store_arguments.Goals as goal
+
+pub store_at-requires-clause-writes : goal.store_at-requires-clause-writes
+store_at-requires-clause-writes g c = each_later g.B.Bindgen.meaning c.args.resolve.now.types _ _ c.args.tys.now c.in_ok-address.ensures.points.2.grows c.requires.writes
 
 pub returns : goal.returns
 returns g c =

@@ -18,6 +18,7 @@ use Rattle.abi_driver.proofs.RecordStores.{rest_last, rest_next}
 use Rattle.abi_bindgen.proofs.Records.{part_below_within}
 use Rattle.abi_bindgen.proofs.Runs.{adds_both, adds_same}
 use Rattle.abi_bindgen.proofs.SendSteps.{sends_as, sends_last, sends_next, sends_then}
+use Rattle.abi_bindgen.proofs.Writing.{one_written, writes_later}
 use Rattle.abi_driver.proofs.calls.area.store_at.Goals as goal
 
 pub loop-i-init : goal.loop-i-init
@@ -54,6 +55,7 @@ store_type-requires g c =
       side = reads.imports ∙ adds.imports ∙ c.requires.side;
       knows = reads.knows types (adds.knows types c.requires.knows);
       serves = part_served types tys i wit.Bool c.requires.serves short;
+      writes = writes_later g.B.Bindgen.meaning types _ _ (get_or tys i wit.Bool) reads (writes_later g.B.Bindgen.meaning types _ _ (get_or tys i wit.Bool) adds (one_written g.B.Bindgen.meaning types c.args.bindgen.now tys i wit.Bool c.requires.writes short));
       low = small_part types tys i wit.Bool short (get_or c.as_slice.result.now i nowhere) c.requires.small pair;
     }
 

@@ -24,7 +24,23 @@ use Rattle.abi_driver.proofs.CallCode.{few_words, given_words}
 use Rattle.abi_driver.proofs.ExportSteps.{calls_export, export_indirect, export_pointer, export_words}
 use Rattle.abi_bindgen.proofs.Records.{count-shapes}
 use Rattle.abi_bindgen.proofs.SendSteps.{sends_as, sends_both, sends_one, sends_then}
+use Rattle.abi_bindgen.specs.Written.{WritesEach}
+use Rattle.abi_bindgen.proofs.Writing.{part_later}
 use Rattle.abi_driver.proofs.calls.export.call_export.Goals as goal
+
+pub take_arguments-requires-clause-writes : goal.take_arguments-requires-clause-writes
+take_arguments-requires-clause-writes g c =
+    let types = c.args.resolve.now.types in
+    let f = c.args.func.now in
+    let same : c.as_slice-2.result.now ≡ map (λ (p : Param). p.ty) f.params = c.as_slice-2.ensures ∙ c.in_ok-tys.ensures ∙ ap (map (λ (p : Param). p.ty)) c.as_slice.ensures in
+    subst (λ (tys : List WitType). WritesEach g.B.Bindgen.meaning types tys c.args.bindgen.now) (sym same) c.requires.writes.params
+
+pub give_answer-requires-clause-writes : goal.give_answer-requires-clause-writes
+give_answer-requires-clause-writes g c =
+    let m = g.B.Bindgen.meaning in
+    let types = c.args.resolve.now.types in
+    let result = c.args.func.now.result in
+    part_later m types _ _ result c.in_ok-answer.ensures.adds (part_later m types _ _ result c.in_ok-values.ensures.takes.adds.grows c.requires.writes.result)
 
 pub take_arguments-requires-clause-below : goal.take_arguments-requires-clause-below
 take_arguments-requires-clause-below g c =

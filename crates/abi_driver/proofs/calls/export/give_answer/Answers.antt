@@ -4,7 +4,18 @@ use Rattle.wit_model.specs.declared.types.WitType.{WitType}
 use Rattle.wrapper_meaning.specs.Represents.{result_words}
 use Rattle.wrapper_meaning.specs.Shape.{shape_of}
 use Rattle.abi_bindgen.specs.Served.{ServesResult}
+use Rattle.abi_bindgen.specs.Written.{WritesPart}
 use Rattle.abi_driver.proofs.calls.export.give_answer.Goals as goal
+
+pub store_answer-requires-clause-writes : goal.store_answer-requires-clause-writes
+store_answer-requires-clause-writes g c =
+    let types = c.args.resolve.now.types in
+    subst (λ (p : Option WitType). WritesPart g.B.Bindgen.meaning types p c.args.bindgen.now) c.in-Some.is c.requires.writes
+
+pub lower_answer-requires-clause-writes : goal.lower_answer-requires-clause-writes
+lower_answer-requires-clause-writes g c =
+    let types = c.args.resolve.now.types in
+    subst (λ (p : Option WitType). WritesPart g.B.Bindgen.meaning types p c.args.bindgen.now) c.in-Some-2.is c.requires.writes
 
 pub store_answer-requires-clause-serves : goal.store_answer-requires-clause-serves
 store_answer-requires-clause-serves g c =

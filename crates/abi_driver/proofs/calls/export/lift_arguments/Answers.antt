@@ -19,6 +19,7 @@ use Rattle.abi_bindgen.proofs.Records.{part_below_within}
 use Rattle.abi_bindgen.proofs.Runs.{adds_both, adds_same}
 use Rattle.abi_bindgen.proofs.SendSteps.{sends_as}
 use Rattle.abi_bindgen.proofs.Serving.{part_served}
+use Rattle.abi_bindgen.proofs.Writing.{one_written, writes_later}
 use Rattle.abi_driver.proofs.calls.export.lift_arguments.Goals as goal
 
 pub loop-i-init : goal.loop-i-init
@@ -78,6 +79,7 @@ lift_flat-requires g c =
       down = types_go_down c.args.resolve.now c.requires.well.unbroken;
       below = part_below_within n c.args.tys.now c.requires.below c.loop-i.i wit.Bool short n (omega arith);
       serves = part_served types tys c.loop-i.i wit.Bool c.requires.serves short;
+      writes = writes_later g.B.Bindgen.meaning types _ _ ty c.in_ok-words.ensures.reads.adds.grows (writes_later g.B.Bindgen.meaning types _ _ ty c.loop-i.invariant.adds.grows (one_written g.B.Bindgen.meaning types c.args.bindgen.now tys c.loop-i.i wit.Bool c.requires.writes short));
       few = omega (arith, read, exact, few);
       exact = read ∙ exact;
     }

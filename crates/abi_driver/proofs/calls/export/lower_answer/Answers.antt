@@ -3,7 +3,7 @@ use Rattle.abi_driver.proofs.LeafStores.{one_of}
 use Rattle.abi_driver.proofs.calls.export.lower_answer.Goals as goal
 
 pub lower_flat-requires : goal.lower_flat-requires
-lower_flat-requires g c = record { well = c.requires.well; down = c.requires.down; below = c.requires.below; side = c.requires.side; serves = c.requires.serves; few = c.requires.few }
+lower_flat-requires g c = record { well = c.requires.well; down = c.requires.down; below = c.requires.below; side = c.requires.side; serves = c.requires.serves; writes = c.requires.writes; few = c.requires.few }
 
 pub returns : goal.returns
 returns g c =

@@ -7,6 +7,7 @@ use Rattle.abi_bindgen.specs.Sends.{Sends}
 use Rattle.abi_driver.specs.Stores.{LowersToMemory}
 use Rattle.abi_driver.proofs.LeafStores.{one_of}
 use Rattle.abi_bindgen.proofs.SendSteps.{sends_both}
+use Rattle.abi_bindgen.proofs.Writing.{writes_later}
 use Rattle.abi_driver.proofs.calls.export.store_answer.Goals as goal
 
 pub store_type-requires : goal.store_type-requires
@@ -21,6 +22,7 @@ store_type-requires g c =
       side = grows.exports ∙ c.requires.side;
       knows = knows;
       serves = c.requires.serves;
+      writes = writes_later g.B.Bindgen.meaning types _ _ c.args.ty grows c.requires.writes;
       low = c.start-start.ensures.low types c.args.ty knows c.requires.below;
     }
 

@@ -24,7 +24,24 @@ use Rattle.abi_driver.proofs.CallCode.{few_given, given_count}
 use Rattle.abi_driver.proofs.ExportSteps.{count_mapped}
 use Rattle.abi_driver.proofs.ImportSteps.{calls_import, import_words, indirect_told, one_pointer, pointer_told, words_count}
 use Rattle.abi_bindgen.proofs.SendSteps.{sends_as, sends_both, sends_one, sends_then}
+use Rattle.abi_bindgen.specs.Written.{WritesEach}
+use Rattle.abi_bindgen.proofs.Writing.{part_later}
 use Rattle.abi_driver.proofs.calls.import.call_import.Goals as goal
+
+pub pass_arguments-requires-clause-writes : goal.pass_arguments-requires-clause-writes
+pass_arguments-requires-clause-writes g c =
+    let types = c.args.resolve.now.types in
+    let f = c.args.func.now in
+    let same : c.as_slice-2.result.now ≡ map (λ (p : Param). p.ty) f.params = c.as_slice-2.ensures ∙ c.in_ok-tys.ensures ∙ ap (map (λ (p : Param). p.ty)) c.as_slice.ensures in
+    subst (λ (tys : List WitType). WritesEach g.B.Bindgen.meaning types tys c.args.bindgen.now) (sym same) c.requires.writes.params
+
+pub read_answer-requires-clause-writes : goal.read_answer-requires-clause-writes
+read_answer-requires-clause-writes g c =
+    let m = g.B.Bindgen.meaning in
+    let types = c.args.resolve.now.types in
+    let result = c.args.func.now.result in
+    let points = points_grows m g.met.B.Bindgen.sound (result_shape types c.args.func.now) c.in_ok-pointer.pointer _ _ c.in_ok-pointer.ensures.points in
+    part_later m types _ _ result c.in_ok-answer.ensures.adds (part_later m types _ _ result points.0 (part_later m types _ _ result c.in_ok-words.ensures.passes.grows c.requires.writes.result))
 
 pub pass_arguments-requires-clause-down : goal.pass_arguments-requires-clause-down
 pass_arguments-requires-clause-down g c = types_go_down c.args.resolve.now c.requires.well.unbroken

@@ -13,6 +13,7 @@ use Rattle.abi_driver.proofs.ArgumentSteps.{rest_last, rest_next, within_count}
 use Rattle.abi_bindgen.proofs.Records.{part_below_within}
 use Rattle.abi_bindgen.proofs.Runs.{adds_both, adds_same}
 use Rattle.abi_bindgen.proofs.SendSteps.{sends_last, sends_next, sends_then}
+use Rattle.abi_bindgen.proofs.Writing.{one_written, writes_later}
 use Rattle.abi_driver.proofs.calls.import.lower_arguments.Goals as goal
 
 pub loop-i-init : goal.loop-i-init
@@ -38,6 +39,7 @@ lower_flat-requires g c =
       below = part_below_within (length c.args.resolve.now.types) c.args.tys.now c.requires.below c.loop-i.i wit.Bool short (length c.args.resolve.now.types) (omega arith);
       side = reads.imports ∙ adds.imports ∙ c.requires.side;
       serves = part_served types tys c.loop-i.i wit.Bool c.requires.serves short;
+      writes = writes_later g.B.Bindgen.meaning types _ _ (get_or tys c.loop-i.i wit.Bool) reads (writes_later g.B.Bindgen.meaning types _ _ (get_or tys c.loop-i.i wit.Bool) adds (one_written g.B.Bindgen.meaning types c.args.bindgen.now tys c.loop-i.i wit.Bool c.requires.writes short));
       few = omega (arith, part_few types tys c.loop-i.i wit.Bool short, most);
     }
 

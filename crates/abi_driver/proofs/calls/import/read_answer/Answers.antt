@@ -4,7 +4,18 @@ use Rattle.wit_model.specs.declared.types.WitType.{WitType}
 use Rattle.wrapper_meaning.specs.Represents.{result_words}
 use Rattle.wrapper_meaning.specs.Shape.{shape_of}
 use Rattle.abi_bindgen.specs.Served.{ServesResult}
+use Rattle.abi_bindgen.specs.Written.{WritesPart}
 use Rattle.abi_driver.proofs.calls.import.read_answer.Goals as goal
+
+pub load_answer-requires-clause-writes : goal.load_answer-requires-clause-writes
+load_answer-requires-clause-writes g c =
+    let types = c.args.resolve.now.types in
+    subst (λ (p : Option WitType). WritesPart g.B.Bindgen.meaning types p c.args.bindgen.now) c.in-Some.is c.requires.writes
+
+pub lift_answer-requires-clause-writes : goal.lift_answer-requires-clause-writes
+lift_answer-requires-clause-writes g c =
+    let types = c.args.resolve.now.types in
+    subst (λ (p : Option WitType). WritesPart g.B.Bindgen.meaning types p c.args.bindgen.now) c.in-Some-2.is c.requires.writes
 
 -- a result that is passed directly is a word at most
 

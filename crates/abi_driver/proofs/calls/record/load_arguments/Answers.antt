@@ -6,7 +6,11 @@ use Rattle.abi_bindgen.specs.Instructions.{shapes_of}
 use Rattle.abi_bindgen.specs.Sent.{sends}
 use Rattle.abi_bindgen.proofs.Records.{count-shapes}
 use Rattle.abi_bindgen.proofs.SendSteps.{sends_as, sends_both, sends_then}
+use Rattle.abi_bindgen.proofs.Writing.{each_later}
 use Rattle.abi_driver.proofs.calls.record.load_arguments.Goals as goal
+
+pub load_at-requires-clause-writes : goal.load_at-requires-clause-writes
+load_at-requires-clause-writes g c = each_later g.B.Bindgen.meaning c.args.resolve.now.types _ _ c.args.tys.now c.in_ok-address.ensures.adds.grows c.requires.writes
 
 pub overflow_cast-count : goal.overflow_cast-count
 overflow_cast-count g c = omega (arith, c.len-count.ensures, c.in_ok-parts.ensures.count, c.requires.few)

@@ -15,6 +15,7 @@ use Rattle.abi_driver.proofs.RecordPlaces.{have_places, record_place}
 use Rattle.abi_bindgen.proofs.Records.{part_below_within}
 use Rattle.abi_bindgen.proofs.Runs.{adds_both}
 use Rattle.abi_bindgen.proofs.SendSteps.{sends_as, sends_last, sends_next}
+use Rattle.abi_bindgen.proofs.Writing.{one_written, writes_later}
 use Rattle.abi_driver.proofs.calls.record.load_at.Goals as goal
 
 pub record_places-requires-clause-small : goal.record_places-requires-clause-small
@@ -39,6 +40,7 @@ load_type-requires g c =
       below = part_below_within (length types) c.args.tys.now c.requires.below c.loop-i.i wit.Bool short (length types) (omega arith);
       knows = c.loop-i.invariant.adds.grows.knows types c.requires.knows;
       serves = part_served types tys i wit.Bool c.requires.serves short;
+      writes = writes_later g.B.Bindgen.meaning types _ _ (get_or tys i wit.Bool) c.loop-i.invariant.adds.grows (one_written g.B.Bindgen.meaning types c.args.bindgen.now tys i wit.Bool c.requires.writes short);
       low = small_part types tys i wit.Bool short (get_or c.as_slice.result.now i nowhere) c.requires.small pair;
     }
 

@@ -1,4 +1,4 @@
-use Rattle.std.proofs.Common.{◌<◌, List, [], ◌∷◌, length, refl, subst}
+use Rattle.std.proofs.Common.{◌<◌, List, [], ◌∷◌, length, refl, ap, subst}
 use Rattle.abi_bindgen.specs.Instructions.{Emits}
 use Rattle.abi_bindgen.specs.declared.instruction.Instruction.TheVariants.{EnumLift}
 use Rattle.abi_driver.proofs.EnumSteps.{enum_lifts}
@@ -6,7 +6,11 @@ use Rattle.abi_bindgen.proofs.FlatCode.{lift_enum_code}
 use Rattle.abi_driver.proofs.LiftSteps.{lifts_as}
 use Rattle.abi_bindgen.proofs.Records.{drop-same, enum_shape}
 use Rattle.abi_bindgen.proofs.SendSteps.{sends_as, sends_one}
+use Rattle.wit_model.specs.Reaches.{reaches_itself}
 use Rattle.abi_driver.proofs.lift.enums.lift_enum.Goals as goal
+
+pub send_one-requires-clause-ready : goal.send_one-requires-clause-ready
+send_one-requires-clause-ready g c = record { built = refl; operands = ap length c.in_ok-operands.ensures; suits = (c.args.members.now, c.requires.here, c.requires.writes c.args.id reaches_itself) }
 
 pub returns : goal.returns
 returns g c =

@@ -1,5 +1,6 @@
 use Rattle.std.proofs.Common.{◌≡◌, ◌≤◌, ◌+◌, ◌-◌, List, [], ◌∷◌, ◌++◌, length, take, drop, refl, sym, ap, ◌∙◌, subst, arith, length-drop}
 use Rattle.std.proofs.lemmas.List.{drop-drop, length-take-le, take-append-drop}
+use Rattle.wit_model.specs.Reaches.{reaches_itself}
 use Rattle.wit_layout.specs.Extent.{flag_words}
 use Rattle.wit_layout.specs.Flat.{words_of_flags}
 use Rattle.abi_bindgen.specs.FlagSets.{AreFlags}
@@ -28,7 +29,7 @@ send_one-requires g c =
     let same : c.args.at + count - c.args.at ≡ count = omega arith in
     let many = ap length is ∙ length-take-le (c.args.at + count - c.args.at) read room ∙ same ∙ c.flag_words.ensures ∙ ap flag_words c.len.ensures ∙ sym (length_words n) in
     record {
-      ready = record { built = refl; operands = λ k other. many ∙ ap (λ j. length (words_of_flags j)) (one_count types c.args.id.0 n k are other); suits = (n, are) };
+      ready = record { built = refl; operands = λ k other. many ∙ ap (λ j. length (words_of_flags j)) (one_count types c.args.id.0 n k are other); suits = (n, are, c.requires.writes c.args.id reaches_itself) };
       makes = λ k h. h;
     }
 

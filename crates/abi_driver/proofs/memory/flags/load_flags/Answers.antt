@@ -1,5 +1,6 @@
 use Rattle.std.proofs.Common.{◌≡◌, ℕ, ◌+◌, List, [], ◌∷◌, ◌++◌, length, refl, sym, ap, ap₂, ◌∙◌, subst, arith}
 use Rattle.std.proofs.lemmas.List.{length-append}
+use Rattle.wit_model.specs.Reaches.{reaches_itself}
 use Rattle.wit_layout.specs.Extent.{flag_words, flags_extent}
 use Rattle.wit_layout.specs.Flat.{words_of_flags}
 use Rattle.wrapper_meaning.specs.Shape.{Shape}
@@ -15,7 +16,7 @@ use Rattle.abi_driver.proofs.FlagSteps.{each_alike, flags_grain_small, flags_loa
 use Rattle.abi_driver.proofs.LoadSteps.{loads_as}
 use Rattle.abi_driver.proofs.LowPlaces.{flag_word_low}
 use Rattle.abi_driver.proofs.MemoryCode.{load_flags_code}
-use Rattle.abi_driver.proofs.NumberWords.{LoadedOn, loaded_more, loaded_sends}
+use Rattle.abi_driver.proofs.NumberWords.{LoadedOn, loaded_adds, loaded_more, loaded_sends}
 use Rattle.abi_driver.proofs.Sendable.{makeable_number_load}
 use Rattle.abi_bindgen.proofs.Records.{flags_shape}
 use Rattle.abi_bindgen.proofs.WordCounts.{length_words}
@@ -67,7 +68,8 @@ send_one-requires-clause-ready g c =
     let are : AreFlags types c.args.id.0 (length members) = (members, c.requires.here, refl) in
     let done : c.loop-nth.nth ≡ c.flag_words-count.result = omega (arith, c.loop-nth-test.false, c.loop-nth.auto.nth-end) in
     let many = c.loop-nth.invariant.count ∙ done ∙ c.flag_words-count.ensures ∙ ap flag_words c.len-flags.ensures ∙ sym (length_words (length members)) in
-    record { built = refl; operands = λ n other. many ∙ ap (λ k. length (words_of_flags k)) (one_count types c.args.id.0 (length members) n are other); suits = (length members, are) }
+    let adds = loaded_adds g.B.Bindgen.meaning g.met.B.Bindgen.sound types (flags_extent (length members)).grain (flags_grain_small (length members)) (place_of c.args.offset) c.args.address.now 0 c.loop-nth.words _ _ c.loop-nth.invariant.loaded in
+    record { built = refl; operands = λ n other. many ∙ ap (λ k. length (words_of_flags k)) (one_count types c.args.id.0 (length members) n are other); suits = (length members, are, adds.grows.writes types c.args.id.0 (c.requires.writes c.args.id reaches_itself)) }
 
 pub returns : goal.returns
 returns g c =

@@ -1,5 +1,6 @@
 use Rattle.std.proofs.Common.{◌≡◌, ℕ, suc, ◌<◌, ◌+◌, ◌-◌, List, [], ◌∷◌, length, drop, reverse, refl, sym, ap, ap₂, ◌∙◌, subst, arith}
 use Rattle.std.proofs.lemmas.List.{drop_all}
+use Rattle.wit_model.specs.Reaches.{reaches_itself}
 use Rattle.wit_layout.specs.Extent.{flags_extent}
 use Rattle.wit_layout.specs.Flat.{words_of_flags}
 use Rattle.wrapper_meaning.specs.Shape.{Shape}
@@ -21,6 +22,9 @@ use Rattle.abi_bindgen.proofs.WordCounts.{length_words}
 use Rattle.abi_bindgen.proofs.SendSteps.{sends_as, sends_then}
 use Rattle.abi_driver.proofs.StoreSteps.{stores_as}
 use Rattle.abi_driver.proofs.memory.flags.store_flags.Goals as goal
+
+pub lower_by-requires : goal.lower_by-requires
+lower_by-requires g c = record { built = refl; operands = refl; suits = (length c.args.members.now, (c.args.members.now, c.requires.here, refl), c.requires.writes c.args.id reaches_itself) }
 
 pub loop-behind-init : goal.loop-behind-init
 loop-behind-init g c =

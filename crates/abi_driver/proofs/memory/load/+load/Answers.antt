@@ -1,9 +1,10 @@
 use Rattle.std.proofs.Common.{◌≡◌, ℕ, ◌<◌, ◌≤◌, ◌+◌, ◌^◌, true, List, [], ◌∷◌, ◌++◌, length, map, reverse, get_or, option_map, IfOk, OnOk, option_to_list, Option, None, refl, sym, ap, ◌∙◌, subst, arith}
-use Rattle.std.specs.List.{list_all, slice_index}
+use Rattle.std.specs.List.{AllByRecursion, list_all, slice_index}
 use Rattle.std.proofs.lemmas.Bool.{ltb-true}
 use Rattle.std.proofs.lemmas.List.{drop_more, length-append, length-map}
 use Rattle.std.proofs.lemmas.Option.{slice_get_within}
 use Rattle.wit_model.specs.Size.{bytes_at}
+use Rattle.wit_model.specs.Reaches.{reaches_itself}
 use Rattle.wit_model.specs.TypeOrder.{payload_below, type_below}
 use Rattle.wit_model.specs.declared.types.Field.{Field}
 use Rattle.wit_model.specs.declared.types.TypeDef.{TypeDef}
@@ -30,13 +31,15 @@ use Rattle.abi_driver.specs.Loads.{LiftsFromMemory, LoadsParts}
 use Rattle.abi_bindgen.specs.Places.{HasParts, IsOfParts}
 use Rattle.abi_bindgen.specs.Sent.{Sent, closes, opens, sends}
 use Rattle.abi_bindgen.specs.Served.{Serves, ServesAll}
+use Rattle.abi_bindgen.specs.Written.{Writes, WritesEach, WritesPart}
 use Rattle.abi_driver.specs.Low.{EndsLow}
 use Rattle.abi_driver.proofs.CaseInstructions.{lifting_sendable}
 use Rattle.abi_driver.proofs.LiftedVariants.{lifting_makes}
 use Rattle.abi_driver.proofs.CaseLoads.{bare_loads, payload_loads, rest_last as last_case, rest_next as next_case}
-use Rattle.abi_driver.proofs.CaseSteps.{are_finished, resumes_both, resumes_same}
+use Rattle.abi_driver.proofs.CaseSteps.{are_finished, part_resumed, resumes_both, resumes_same}
 use Rattle.abi_bindgen.proofs.Payloads.{payload_some, variant_below, variant_shape}
 use Rattle.abi_bindgen.proofs.Serving.{alias_served, few_payloads, other_refused, part_served, payload_served, payloads_served, record_served, tuple_served}
+use Rattle.abi_bindgen.proofs.Writing.{alias_written, one_written, payload_written, payloads_written, record_written, tuple_written, writes_later}
 use Rattle.abi_driver.proofs.LowPlaces.{part_ends, part_low, payload_ends, payload_low as payload_begins, payloads_low}
 use Rattle.abi_driver.proofs.NumberWords.{number_load_adds}
 use Rattle.abi_driver.proofs.VariantLoads.{loaded_variant}
@@ -57,8 +60,9 @@ load_type-load_id-requires g t c κs within =
     let inside : c.in-Id.id.0 < n = ltb-true c.in-Id.id.0 n (ap (type_below n) (sym c.in-Id.is) ∙ c.requires.below) in
     let types = c.args.resolve.now.types in
     let serves = subst (λ (ty : WitType). Serves (shape_of types ty)) c.in-Id.is c.requires.serves in
+    let writes = subst (λ (ty : WitType). Writes g.B.Bindgen.meaning types ty c.args.bindgen.now) c.in-Id.is c.requires.writes in
     let low = subst (λ (ty : WitType). EndsLow (shape_of types ty) c.args.offset) c.in-Id.is c.requires.low in
-    (omega arith, (within.0, (within.1, (c.requires.well, (c.requires.down, (inside, (c.requires.knows, (serves, low))))))))
+    (omega arith, (within.0, (within.1, (c.requires.well, (c.requires.down, (inside, (c.requires.knows, (serves, (writes, low)))))))))
 
 pub load_type-load_text-requires : goal.load_type-load_text-requires
 load_type-load_text-requires g t c =
@@ -94,8 +98,9 @@ load_id-load_type-requires g t c κs within =
     let low : rank c.in-Alias.ty ≤ c.args.id.0 = alias_rank types c.requires.down c.args.id.0 d at c.in-Alias.ty is in
     let below = alias_below types c.requires.down c.args.id.0 d at c.in-Alias.ty is c.requires.within in
     let serves = alias_served types c.requires.down c.args.id.0 d at c.requires.serves c.in-Alias.ty is in
+    let writes = alias_written g.B.Bindgen.meaning types c.args.id d at c.args.bindgen.now c.requires.writes c.in-Alias.ty is in
     let ends = subst (λ (s : Shape). EndsLow s c.args.offset) (alias_shape types c.requires.down c.args.id.0 d at c.in-Alias.ty is) c.requires.low in
-    (omega (arith, low), (within.0, (within.1, (c.requires.well, (c.requires.down, (below, (c.requires.knows, (serves, ends))))))))
+    (omega (arith, low), (within.0, (within.1, (c.requires.well, (c.requires.down, (below, (c.requires.knows, (serves, (writes, ends)))))))))
 
 pub load_id-load_parts-requires : goal.load_id-load_parts-requires
 load_id-load_parts-requires g t c κs within =
@@ -109,7 +114,8 @@ load_id-load_parts-requires g t c κs within =
     let below = subst (λ (xs : List WitType). list_all (λ ty. type_below c.args.id.0 ty) xs ≡ true) (sym same) (record_below types c.requires.down c.args.id.0 d at members is) in
     let parts : HasParts types c.args.id.0 read = (d, at, subst (λ k. IsOfParts k read) (sym is) same) in
     let serves = subst (λ (xs : List WitType). ServesAll (shapes_of types xs)) (sym same) (record_served types c.requires.down c.args.id.0 d at c.requires.serves members is) in
-    (omega arith, (within.0, (within.1, (c.requires.well, (c.requires.down, (c.requires.within, (below, (parts, (c.requires.knows, (serves, c.requires.low))))))))))
+    let writes = subst (λ (xs : List WitType). WritesEach g.B.Bindgen.meaning types xs c.args.bindgen.now) (sym same) (record_written g.B.Bindgen.meaning types c.args.id d at c.args.bindgen.now c.requires.writes members is) in
+    (omega arith, (within.0, (within.1, (c.requires.well, (c.requires.down, (c.requires.within, (below, (parts, (c.requires.knows, (serves, (writes, c.requires.low)))))))))))
 
 pub load_id-send_one-requires-clause-ready : goal.load_id-send_one-requires-clause-ready
 load_id-send_one-requires-clause-ready g t c =
@@ -121,7 +127,7 @@ load_id-send_one-requires-clause-ready g t c =
     let same : c.as_slice-tys.result.now ≡ map (λ (f : Field). f.ty) members = c.as_slice-tys.ensures ∙ c.in_ok-tys-in-Record.ensures ∙ ap (map (λ (f : Field). f.ty)) c.as_slice.ensures in
     let here : IsRecord types c.args.id.0 members = record { entry = d; at = at; kind = is } in
     let count : length c.in_ok-parts-in-Record.parts ≡ length members = c.in_ok-parts-in-Record.ensures.count ∙ ap length same ∙ length-map members (λ (f : Field). f.ty) in
-    record { built = refl; operands = λ others other. count ∙ ap length (one_record types c.args.id.0 members others here other); suits = (members, here) }
+    record { built = refl; operands = λ others other. count ∙ ap length (one_record types c.args.id.0 members others here other); suits = (members, here, c.in_ok-parts-in-Record.ensures.loads.adds.grows.writes types c.args.id.0 (c.requires.writes c.args.id reaches_itself)) }
 
 pub load_id-load_parts-requires-in-Tuple : goal.load_id-load_parts-requires-in-Tuple
 load_id-load_parts-requires-in-Tuple g t c κs within =
@@ -133,7 +139,8 @@ load_id-load_parts-requires-in-Tuple g t c κs within =
     let below = subst (λ (xs : List WitType). list_all (λ ty. type_below c.args.id.0 ty) xs ≡ true) (sym c.as_slice-tys-in-Tuple.ensures) (tuple_below types c.requires.down c.args.id.0 d at c.in-Tuple.members is) in
     let parts : HasParts types c.args.id.0 read = (d, at, subst (λ k. IsOfParts k read) (sym is) c.as_slice-tys-in-Tuple.ensures) in
     let serves = subst (λ (xs : List WitType). ServesAll (shapes_of types xs)) (sym c.as_slice-tys-in-Tuple.ensures) (tuple_served types c.requires.down c.args.id.0 d at c.requires.serves c.in-Tuple.members is) in
-    (omega arith, (within.0, (within.1, (c.requires.well, (c.requires.down, (c.requires.within, (below, (parts, (c.requires.knows, (serves, c.requires.low))))))))))
+    let writes = subst (λ (xs : List WitType). WritesEach g.B.Bindgen.meaning types xs c.args.bindgen.now) (sym c.as_slice-tys-in-Tuple.ensures) (tuple_written g.B.Bindgen.meaning types c.args.id d at c.args.bindgen.now c.requires.writes c.in-Tuple.members is) in
+    (omega arith, (within.0, (within.1, (c.requires.well, (c.requires.down, (c.requires.within, (below, (parts, (c.requires.knows, (serves, (writes, c.requires.low)))))))))))
 
 pub load_id-part_count-requires : goal.load_id-part_count-requires
 load_id-part_count-requires g t c =
@@ -150,7 +157,7 @@ load_id-load_flags-requires g t c =
     let d = c.index-types-at.result in
     let at = entry_at types c.as_slice-types.result.now c.args.id.0 d c.as_slice-types.ensures c.requires.within c.index-types-at.is in
     let is = kind_at c.as_slice-types.result.now c.args.id.0 d (kind.Flags c.in-Flags.members) c.index-types-at.is c.in-Flags.is in
-    record { down = c.requires.down; here = record { entry = d; stands = at; kind = is }; low = c.requires.low }
+    record { down = c.requires.down; here = record { entry = d; stands = at; kind = is }; writes = c.requires.writes; low = c.requires.low }
 
 pub load_id-unreachable-requires : goal.load_id-unreachable-requires
 load_id-unreachable-requires g t c =
@@ -234,9 +241,10 @@ load_parts-load_type-requires g t c κs within =
     let knows = c.loop-i.invariant.adds.grows.knows types c.requires.knows in
     let tys = c.args.tys.now in
     let serves = part_served types tys c.loop-i.i wit.Bool c.requires.serves short in
+    let writes = writes_later g.B.Bindgen.meaning types _ _ (get_or tys c.loop-i.i wit.Bool) c.loop-i.invariant.adds.grows (one_written g.B.Bindgen.meaning types c.args.bindgen.now tys c.loop-i.i wit.Bool c.requires.writes short) in
     let found = c.part_place-place.ensures types c.requires.parts.0 knows c.requires.parts.1 (no_alias 3 types c.args.id.0 tys c.requires.parts) in
     let ends = part_ends types tys c.loop-i.i wit.Bool short c.args.id c.requires.down c.requires.parts c.args.offset c.requires.low c.part_place-place.result found.0 found.1 found.2 in
-    (omega (arith, low), (within.0, (within.1, (c.requires.well, (c.requires.down, (below, (knows, (serves, ends))))))))
+    (omega (arith, low), (within.0, (within.1, (c.requires.well, (c.requires.down, (below, (knows, (serves, (writes, ends)))))))))
 
 pub load_parts-part_place-place-requires : goal.load_parts-part_place-place-requires
 load_parts-part_place-place-requires g t c =
@@ -289,7 +297,7 @@ load_id-load_variant-requires g t c κs within =
     let k = (get_or c.as_slice-types.result.now c.args.id.0 d).kind in
     let here : IsKindOf types c.args.id.0 k = record { entry = d; stands = at; kind = ap (λ (x : TypeDef). x.kind) c.index-types-at.is } in
     let cases : has_cases k ≡ true = ap has_cases c.in-Variant.is in
-    (omega arith, (within.0, (within.1, (c.requires.well, (c.requires.down, (here, (cases, (c.requires.knows, (c.requires.serves, c.requires.low)))))))))
+    (omega arith, (within.0, (within.1, (c.requires.well, (c.requires.down, (here, (cases, (c.requires.knows, (c.requires.serves, (c.requires.writes, c.requires.low))))))))))
 
 pub load_id-load_variant-requires-in-Option : goal.load_id-load_variant-requires-in-Option
 load_id-load_variant-requires-in-Option g t c κs within =
@@ -299,7 +307,7 @@ load_id-load_variant-requires-in-Option g t c κs within =
     let k = (get_or c.as_slice-types.result.now c.args.id.0 d).kind in
     let here : IsKindOf types c.args.id.0 k = record { entry = d; stands = at; kind = ap (λ (x : TypeDef). x.kind) c.index-types-at.is } in
     let cases : has_cases k ≡ true = ap has_cases c.in-Option.is in
-    (omega arith, (within.0, (within.1, (c.requires.well, (c.requires.down, (here, (cases, (c.requires.knows, (c.requires.serves, c.requires.low)))))))))
+    (omega arith, (within.0, (within.1, (c.requires.well, (c.requires.down, (here, (cases, (c.requires.knows, (c.requires.serves, (c.requires.writes, c.requires.low))))))))))
 
 pub load_id-load_variant-requires-in-Result : goal.load_id-load_variant-requires-in-Result
 load_id-load_variant-requires-in-Result g t c κs within =
@@ -309,7 +317,7 @@ load_id-load_variant-requires-in-Result g t c κs within =
     let k = (get_or c.as_slice-types.result.now c.args.id.0 d).kind in
     let here : IsKindOf types c.args.id.0 k = record { entry = d; stands = at; kind = ap (λ (x : TypeDef). x.kind) c.index-types-at.is } in
     let cases : has_cases k ≡ true = ap has_cases c.in-Result.is in
-    (omega arith, (within.0, (within.1, (c.requires.well, (c.requires.down, (here, (cases, (c.requires.knows, (c.requires.serves, c.requires.low)))))))))
+    (omega arith, (within.0, (within.1, (c.requires.well, (c.requires.down, (here, (cases, (c.requires.knows, (c.requires.serves, (c.requires.writes, c.requires.low))))))))))
 
 pub load_variant-load_cases-requires : goal.load_variant-load_cases-requires
 load_variant-load_cases-requires g t c κs within =
@@ -326,9 +334,10 @@ load_variant-load_cases-requires g t c κs within =
     let shape = variant_shape types c.requires.down c.args.id.0 k c.requires.here c.requires.cases ∙ ap (λ (ps : List (Option WitType)). cases (payloads_in (shapes types) ps)) (sym same) in
     let tys = c.as_slice-tys.result.now in
     let serves = payloads_served types c.args.id.0 tys shape c.requires.serves in
+    let writes = subst (λ (ps : List (Option WitType)). AllByRecursion (λ (p : Option WitType). WritesPart m types p c.load_tag.new.bindgen) ps) (sym same) (payloads_written m types c.args.id d at c.load_tag.new.bindgen (writes_later m types _ _ (wit.Id c.args.id) loaded.grows c.requires.writes) k c.requires.cases is) in
     let place = c.payload_place-place.ensures types d c.requires.knows at (ap is_alias is ∙ cases_no_alias 3 types k c.requires.cases) in
     let low = payloads_low types c.args.id (payloads_in (shapes types) tys) shape c.args.offset c.requires.low c.payload_place-place.result place.0 place.1 place.2 in
-    (omega arith, (within.0, (within.1, (c.requires.well, (c.requires.down, ((slice_get_within types c.args.id.0 d at), (below, (knows, (serves, low)))))))))
+    (omega arith, (within.0, (within.1, (c.requires.well, (c.requires.down, ((slice_get_within types c.args.id.0 d at), (below, (knows, (serves, (writes, low))))))))))
 
 pub load_variant-payload_place-place-requires : goal.load_variant-payload_place-place-requires
 load_variant-payload_place-place-requires g t c =
@@ -352,8 +361,10 @@ load_variant-send_one-requires-clause-ready g t c =
     let loads = c.in_ok-load_cases.ensures.loads in
     let finished = are_finished m (result_counts tys) loads.bodies _ _ loads.adds in
     let has = subst (λ (ps : List (Option WitType)). HasBlocks m (reverse (result_counts ps)) c.load_cases.new.bindgen) same finished in
+    let loaded = number_load_adds m g.met.B.Bindgen.sound types (discriminant_grain (length tys)) c.args.offset (c.args.address.now ∷ []) (c.in_ok-tag.tag ∷ []) _ _ c.in_ok-tag.ensures in
+    let writes = loads.adds.resumes.writes types c.args.id.0 (loaded.grows.writes types c.args.id.0 (c.requires.writes c.args.id reaches_itself)) in
     let ready = subst (λ (i : Instruction). IsSendable m c.args.resolve.now i (c.in_ok-tag.tag ∷ []) c.load_cases.new.bindgen) (sym c.case_lifting-lift.ensures)
-    (lifting_sendable m c.args.resolve.now c.requires.well c.requires.down c.args.id c.in_ok-tag.tag _ k (record { entry = d; stands = at; kind = is }) c.requires.cases has) in
+    (lifting_sendable m c.args.resolve.now c.requires.well c.requires.down c.args.id c.in_ok-tag.tag _ writes k (record { entry = d; stands = at; kind = is }) c.requires.cases has) in
     subst (λ (os : List g.row.B-Operand.Denot). IsSendable m c.args.resolve.now c.case_lifting-lift.result os c.load_cases.new.bindgen) (sym c.in_ok-operands.ensures) ready
 
 pub load_variant-send_one-requires-clause-makes : goal.load_variant-send_one-requires-clause-makes
@@ -393,8 +404,9 @@ load_cases-load_case-requires g t c κs within =
     let below = payload_low c.args.id.0 c.args.payloads.now c.requires.below c.loop-i.i None short in
     let knows = c.loop-i.invariant.resumes.knows c.args.resolve.now.types c.requires.knows in
     let serves = payload_served c.args.resolve.now.types c.args.payloads.now c.loop-i.i None c.requires.serves short in
+    let writes = part_resumed g.B.Bindgen.meaning c.args.resolve.now.types _ _ (get_or c.args.payloads.now c.loop-i.i None) c.loop-i.invariant.resumes (payload_written g.B.Bindgen.meaning c.args.resolve.now.types c.args.bindgen.now c.args.payloads.now c.loop-i.i None c.requires.writes short) in
     let low = payload_ends (shapes c.args.resolve.now.types) c.args.payloads.now c.loop-i.i None c.args.place c.requires.low short in
-    (omega arith, (within.0, (within.1, (c.requires.well, (c.requires.down, (c.requires.within, (below, (knows, (serves, low)))))))))
+    (omega arith, (within.0, (within.1, (c.requires.well, (c.requires.down, (c.requires.within, (below, (knows, (serves, (writes, low))))))))))
 
 pub load_cases-loop-i-preserved : goal.load_cases-loop-i-preserved
 load_cases-loop-i-preserved g t c =
@@ -428,8 +440,9 @@ load_case-load_payload-requires g t c κs within =
     let below = payload_type_low c.args.id.0 c.in-Some.ty (subst (λ (p : Option WitType). payload_below c.args.id.0 p ≡ true) c.in-Some.is c.requires.below) in
     let ss = shapes c.args.resolve.now.types in
     let serves = subst (λ (p : Option WitType). Serves (payload_in ss p)) c.in-Some.is c.requires.serves in
+    let writes = subst (λ (p : Option WitType). WritesPart g.B.Bindgen.meaning c.args.resolve.now.types p c.args.bindgen.now) c.in-Some.is c.requires.writes in
     let low = subst (λ (p : Option WitType). EndsLow (payload_in ss p) c.args.place) c.in-Some.is c.requires.low in
-    (omega arith, (within.0, (within.1, (c.requires.well, (c.requires.down, (c.requires.within, (below, (c.requires.knows, (serves, low)))))))))
+    (omega arith, (within.0, (within.1, (c.requires.well, (c.requires.down, (c.requires.within, (below, (c.requires.knows, (serves, (writes, low))))))))))
 
 pub load_case-returns-in_ok-empty_block-in-None : goal.load_case-returns-in_ok-empty_block-in-None
 load_case-returns-in_ok-empty_block-in-None g t c =
@@ -449,8 +462,9 @@ load_payload-load_type-requires g t c κs within =
     let types = c.args.resolve.now.types in
     let low : rank c.args.ty ≤ c.args.id.0 = type_ranked c.args.id.0 c.args.ty c.requires.below in
     let below = type_below_table c.args.id.0 (length types) c.args.ty c.requires.below c.requires.within in
+    let writes : Writes g.B.Bindgen.meaning types c.args.ty c.push_block.new.self = λ id reached. c.in_ok-push_block.ensures.lasts.writes types id.0 (c.requires.writes id reached) in
     let knows = c.in_ok-push_block.ensures.lasts.knows types c.requires.knows in
-    (omega (arith, low), (within.0, (within.1, (c.requires.well, (c.requires.down, (below, (knows, (c.requires.serves, c.requires.low))))))))
+    (omega (arith, low), (within.0, (within.1, (c.requires.well, (c.requires.down, (below, (knows, (c.requires.serves, (writes, c.requires.low)))))))))
 
 pub load_payload-finish_block-requires : goal.load_payload-finish_block-requires
 load_payload-finish_block-requires g t c =

@@ -1,9 +1,10 @@
 use Rattle.std.proofs.Common.{◌≡◌, ℕ, ◌<◌, ◌≤◌, ◌+◌, ◌^◌, true, List, [], ◌∷◌, ◌++◌, length, map, replicate, pos, get_or, option_map, OnOk, Option, None, refl, sym, ap, ◌∙◌, subst, arith}
-use Rattle.std.specs.List.{list_all, slice_index}
+use Rattle.std.specs.List.{AllByRecursion, list_all, slice_index}
 use Rattle.std.proofs.lemmas.Bool.{ltb-true}
 use Rattle.std.proofs.lemmas.List.{drop_more, length-map}
 use Rattle.std.proofs.lemmas.Option.{slice_get_within}
 use Rattle.wit_model.specs.Size.{bytes_at}
+use Rattle.wit_model.specs.Reaches.{reaches_itself}
 use Rattle.wit_model.specs.TypeOrder.{payload_below, type_below}
 use Rattle.wit_model.specs.declared.types.Field.{Field}
 use Rattle.wit_model.specs.declared.types.TypeDef.{TypeDef}
@@ -29,6 +30,7 @@ use Rattle.abi_bindgen.specs.Places.{HasParts, IsOfParts}
 use Rattle.abi_bindgen.specs.Sends.{Sends}
 use Rattle.abi_bindgen.specs.Sent.{Sent, closes, opens, sends}
 use Rattle.abi_bindgen.specs.Served.{Serves, ServesAll}
+use Rattle.abi_bindgen.specs.Written.{Writes, WritesEach, WritesPart}
 use Rattle.abi_driver.specs.Low.{EndsLow}
 use Rattle.abi_driver.specs.StoredCases.{StoresCase}
 use Rattle.abi_driver.specs.Stores.{LowersToMemory}
@@ -36,9 +38,10 @@ use Rattle.abi_driver.proofs.CaseInstructions.{lowering_sendable}
 use Rattle.abi_driver.proofs.Tags.{tag_grain_small, tag_kept}
 use Rattle.abi_bindgen.proofs.Payloads.{count_payloads, payload_some, variant_below, variant_shape}
 use Rattle.abi_bindgen.proofs.Serving.{alias_served, enum_served, few_payloads, other_refused, part_served, payload_served, payloads_served, record_served, tuple_served}
+use Rattle.abi_bindgen.proofs.Writing.{alias_written, each_later, one_written, payload_written, payloads_written, record_written, tuple_written, writes_later}
 use Rattle.abi_driver.proofs.LowPlaces.{part_ends, part_low, payload_ends, payload_low as payload_begins, payloads_low}
 use Rattle.abi_driver.proofs.NumberWords.{number_store_adds}
-use Rattle.abi_driver.proofs.CaseSteps.{are_finished, resumes_both, resumes_same, same_back, side_opened, side_resumed}
+use Rattle.abi_driver.proofs.CaseSteps.{are_finished, part_resumed, resumes_both, resumes_same, same_back, side_opened, side_resumed}
 use Rattle.abi_driver.proofs.CaseStores.{payload_case, rest_last as last_case, rest_next as next_case}
 use Rattle.abi_driver.proofs.VariantStores.{stored_variant}
 use Rattle.abi_driver.proofs.MemoryCode.{store_alias_code, store_record_code, store_tuple_code}
@@ -64,8 +67,9 @@ store_type-store_id-requires g t c κs within =
     let inside : c.in-Id.id.0 < n = ltb-true c.in-Id.id.0 n (ap (type_below n) (sym c.in-Id.is) ∙ c.requires.below) in
     let types = c.args.resolve.now.types in
     let serves = subst (λ (ty : WitType). Serves (shape_of types ty)) c.in-Id.is c.requires.serves in
+    let writes = subst (λ (ty : WitType). Writes g.B.Bindgen.meaning types ty c.args.bindgen.now) c.in-Id.is c.requires.writes in
     let low = subst (λ (ty : WitType). EndsLow (shape_of types ty) c.args.offset) c.in-Id.is c.requires.low in
-    (omega arith, (within.0, (within.1, (c.requires.well, (c.requires.down, (inside, (c.requires.side, (c.requires.knows, (serves, low)))))))))
+    (omega arith, (within.0, (within.1, (c.requires.well, (c.requires.down, (inside, (c.requires.side, (c.requires.knows, (serves, (writes, low))))))))))
 
 pub store_type-store_text-requires : goal.store_type-store_text-requires
 store_type-store_text-requires g t c =
@@ -101,8 +105,9 @@ store_id-store_type-requires g t c κs within =
     let low : rank c.in-Alias.ty ≤ c.args.id.0 = alias_rank types c.requires.down c.args.id.0 d at c.in-Alias.ty is in
     let below = alias_below types c.requires.down c.args.id.0 d at c.in-Alias.ty is c.requires.within in
     let serves = alias_served types c.requires.down c.args.id.0 d at c.requires.serves c.in-Alias.ty is in
+    let writes = alias_written g.B.Bindgen.meaning types c.args.id d at c.args.bindgen.now c.requires.writes c.in-Alias.ty is in
     let ends = subst (λ (s : Shape). EndsLow s c.args.offset) (alias_shape types c.requires.down c.args.id.0 d at c.in-Alias.ty is) c.requires.low in
-    (omega (arith, low), (within.0, (within.1, (c.requires.well, (c.requires.down, (below, (c.requires.side, (c.requires.knows, (serves, ends)))))))))
+    (omega (arith, low), (within.0, (within.1, (c.requires.well, (c.requires.down, (below, (c.requires.side, (c.requires.knows, (serves, (writes, ends))))))))))
 
 pub store_id-lower_by-requires : goal.store_id-lower_by-requires
 store_id-lower_by-requires g t c =
@@ -110,7 +115,7 @@ store_id-lower_by-requires g t c =
     let d = c.index-types-at.result in
     let at = entry_at types c.as_slice-types.result.now c.args.id.0 d c.as_slice-types.ensures c.requires.within c.index-types-at.is in
     let is = kind_at c.as_slice-types.result.now c.args.id.0 d (kind.Record c.in-Record.members) c.index-types-at.is c.in-Record.is in
-    record { built = refl; operands = refl; suits = (c.in-Record.members, record { entry = d; at = at; kind = is }) }
+    record { built = refl; operands = refl; suits = (c.in-Record.members, record { entry = d; at = at; kind = is }, c.requires.writes c.args.id reaches_itself) }
 
 pub store_id-store_parts-requires : goal.store_id-store_parts-requires
 store_id-store_parts-requires g t c κs within =
@@ -129,7 +134,8 @@ store_id-store_parts-requires g t c κs within =
     let knows = c.in_ok-parts-in-Record.ensures.adds.grows.knows types c.requires.knows in
     let parts : HasParts types c.args.id.0 read = (d, at, subst (λ k. IsOfParts k read) (sym is) same) in
     let serves = subst (λ (xs : List WitType). ServesAll (shapes_of types xs)) (sym same) (record_served types c.requires.down c.args.id.0 d at c.requires.serves members is) in
-    (omega arith, (within.0, (within.1, (c.requires.well, (c.requires.down, (c.requires.within, (below, (parts, (enough, (side, (knows, (serves, c.requires.low))))))))))))
+    let writes = each_later m types _ _ read c.in_ok-parts-in-Record.ensures.adds.grows (subst (λ (xs : List WitType). WritesEach m types xs c.args.bindgen.now) (sym same) (record_written m types c.args.id d at c.args.bindgen.now c.requires.writes members is)) in
+    (omega arith, (within.0, (within.1, (c.requires.well, (c.requires.down, (c.requires.within, (below, (parts, (enough, (side, (knows, (serves, (writes, c.requires.low)))))))))))))
 
 pub store_id-lower_by-requires-in-Tuple : goal.store_id-lower_by-requires-in-Tuple
 store_id-lower_by-requires-in-Tuple g t c = record { built = refl; operands = refl; suits = tt }
@@ -148,7 +154,8 @@ store_id-store_parts-requires-in-Tuple g t c κs within =
     let knows = c.in_ok-parts-in-Tuple.ensures.adds.grows.knows types c.requires.knows in
     let parts : HasParts types c.args.id.0 read = (d, at, subst (λ k. IsOfParts k read) (sym is) c.as_slice-tys-in-Tuple.ensures) in
     let serves = subst (λ (xs : List WitType). ServesAll (shapes_of types xs)) (sym c.as_slice-tys-in-Tuple.ensures) (tuple_served types c.requires.down c.args.id.0 d at c.requires.serves c.in-Tuple.members is) in
-    (omega arith, (within.0, (within.1, (c.requires.well, (c.requires.down, (c.requires.within, (below, (parts, (enough, (side, (knows, (serves, c.requires.low))))))))))))
+    let writes = each_later m types _ _ read c.in_ok-parts-in-Tuple.ensures.adds.grows (subst (λ (xs : List WitType). WritesEach m types xs c.args.bindgen.now) (sym c.as_slice-tys-in-Tuple.ensures) (tuple_written m types c.args.id d at c.args.bindgen.now c.requires.writes c.in-Tuple.members is)) in
+    (omega arith, (within.0, (within.1, (c.requires.well, (c.requires.down, (c.requires.within, (below, (parts, (enough, (side, (knows, (serves, (writes, c.requires.low)))))))))))))
 
 pub store_id-part_count-requires : goal.store_id-part_count-requires
 store_id-part_count-requires g t c =
@@ -174,7 +181,7 @@ store_id-store_flags-requires g t c =
     let d = c.index-types-at.result in
     let at = entry_at types c.as_slice-types.result.now c.args.id.0 d c.as_slice-types.ensures c.requires.within c.index-types-at.is in
     let is = kind_at c.as_slice-types.result.now c.args.id.0 d (kind.Flags c.in-Flags.members) c.index-types-at.is c.in-Flags.is in
-    record { down = c.requires.down; here = record { entry = d; stands = at; kind = is }; low = c.requires.low }
+    record { down = c.requires.down; here = record { entry = d; stands = at; kind = is }; writes = c.requires.writes; low = c.requires.low }
 
 pub store_id-unreachable-requires : goal.store_id-unreachable-requires
 store_id-unreachable-requires g t c =
@@ -254,9 +261,10 @@ store_parts-store_type-requires g t c κs within =
     let knows = c.loop-i.invariant.adds.grows.knows types c.requires.knows in
     let tys = c.args.tys.now in
     let serves = part_served types tys c.loop-i.i wit.Bool c.requires.serves short in
+    let writes = writes_later g.B.Bindgen.meaning types _ _ (get_or tys c.loop-i.i wit.Bool) c.loop-i.invariant.adds.grows (one_written g.B.Bindgen.meaning types c.args.bindgen.now tys c.loop-i.i wit.Bool c.requires.writes short) in
     let found = c.part_place-place.ensures types c.requires.parts.0 knows c.requires.parts.1 (no_alias 3 types c.args.id.0 tys c.requires.parts) in
     let ends = part_ends types tys c.loop-i.i wit.Bool short c.args.id c.requires.down c.requires.parts c.args.offset c.requires.low c.part_place-place.result found.0 found.1 found.2 in
-    (omega (arith, low), (within.0, (within.1, (c.requires.well, (c.requires.down, (below, (side, (knows, (serves, ends)))))))))
+    (omega (arith, low), (within.0, (within.1, (c.requires.well, (c.requires.down, (below, (side, (knows, (serves, (writes, ends))))))))))
 
 pub store_parts-part_place-place-requires : goal.store_parts-part_place-place-requires
 store_parts-part_place-place-requires g t c =
@@ -309,7 +317,7 @@ store_id-store_variant-requires g t c κs within =
     let k = (get_or c.as_slice-types.result.now c.args.id.0 d).kind in
     let here : IsKindOf types c.args.id.0 k = record { entry = d; stands = at; kind = ap (λ (x : TypeDef). x.kind) c.index-types-at.is } in
     let cases : has_cases k ≡ true = ap has_cases c.in-Variant.is in
-    (omega arith, (within.0, (within.1, (c.requires.well, (c.requires.down, (here, (cases, (c.requires.side, (c.requires.knows, (c.requires.serves, c.requires.low))))))))))
+    (omega arith, (within.0, (within.1, (c.requires.well, (c.requires.down, (here, (cases, (c.requires.side, (c.requires.knows, (c.requires.serves, (c.requires.writes, c.requires.low)))))))))))
 
 pub store_id-store_variant-requires-in-Option : goal.store_id-store_variant-requires-in-Option
 store_id-store_variant-requires-in-Option g t c κs within =
@@ -319,7 +327,7 @@ store_id-store_variant-requires-in-Option g t c κs within =
     let k = (get_or c.as_slice-types.result.now c.args.id.0 d).kind in
     let here : IsKindOf types c.args.id.0 k = record { entry = d; stands = at; kind = ap (λ (x : TypeDef). x.kind) c.index-types-at.is } in
     let cases : has_cases k ≡ true = ap has_cases c.in-Option.is in
-    (omega arith, (within.0, (within.1, (c.requires.well, (c.requires.down, (here, (cases, (c.requires.side, (c.requires.knows, (c.requires.serves, c.requires.low))))))))))
+    (omega arith, (within.0, (within.1, (c.requires.well, (c.requires.down, (here, (cases, (c.requires.side, (c.requires.knows, (c.requires.serves, (c.requires.writes, c.requires.low)))))))))))
 
 pub store_id-store_variant-requires-in-Result : goal.store_id-store_variant-requires-in-Result
 store_id-store_variant-requires-in-Result g t c κs within =
@@ -329,7 +337,7 @@ store_id-store_variant-requires-in-Result g t c κs within =
     let k = (get_or c.as_slice-types.result.now c.args.id.0 d).kind in
     let here : IsKindOf types c.args.id.0 k = record { entry = d; stands = at; kind = ap (λ (x : TypeDef). x.kind) c.index-types-at.is } in
     let cases : has_cases k ≡ true = ap has_cases c.in-Result.is in
-    (omega arith, (within.0, (within.1, (c.requires.well, (c.requires.down, (here, (cases, (c.requires.side, (c.requires.knows, (c.requires.serves, c.requires.low))))))))))
+    (omega arith, (within.0, (within.1, (c.requires.well, (c.requires.down, (here, (cases, (c.requires.side, (c.requires.knows, (c.requires.serves, (c.requires.writes, c.requires.low)))))))))))
 
 pub store_variant-store_cases-requires : goal.store_variant-store_cases-requires
 store_variant-store_cases-requires g t c κs within =
@@ -344,10 +352,11 @@ store_variant-store_cases-requires g t c κs within =
     let tys = c.as_slice-tys.result.now in
     let most = few_payloads types c.args.id.0 tys shape c.requires.serves in
     let serves = payloads_served types c.args.id.0 tys shape c.requires.serves in
+    let writes = subst (λ (ps : List (Option WitType)). AllByRecursion (λ (p : Option WitType). WritesPart g.B.Bindgen.meaning types p c.args.bindgen.now) ps) (sym same) (payloads_written g.B.Bindgen.meaning types c.args.id d at c.args.bindgen.now c.requires.writes k c.requires.cases is) in
     let own = ap is_alias is ∙ cases_no_alias 3 types k c.requires.cases in
     let place = c.payload_place-place.ensures types d c.requires.knows at own in
     let low = payloads_low types c.args.id (payloads_in (shapes types) tys) shape c.args.offset c.requires.low c.payload_place-place.result place.0 place.1 place.2 in
-    (omega arith, (within.0, (within.1, (c.requires.well, (c.requires.down, ((slice_get_within types c.args.id.0 d at), (below, (c.requires.side, (c.requires.knows, (most, (serves, low)))))))))))
+    (omega arith, (within.0, (within.1, (c.requires.well, (c.requires.down, ((slice_get_within types c.args.id.0 d at), (below, (c.requires.side, (c.requires.knows, (most, (serves, (writes, low))))))))))))
 
 pub store_variant-payload_place-place-requires : goal.store_variant-payload_place-place-requires
 store_variant-payload_place-place-requires g t c =
@@ -373,7 +382,7 @@ store_variant-lower_by-requires g t c =
     let finished = are_finished m (replicate (count ts) 0) stores.bodies _ _ stores.adds in
     let has = subst (λ ks. HasBlocks m ks c.store_cases.new.bindgen) (same_back (count ts) 0 ∙ ap (λ n. replicate n 0) many) finished in
     subst (λ (i : Instruction). IsSendable m c.args.resolve.now i (c.args.value ∷ []) c.store_cases.new.bindgen) (sym c.case_lowering-lower.ensures)
-    (lowering_sendable m c.args.resolve.now c.requires.well c.requires.down c.args.id c.args.value _ k 0 (record { entry = d; stands = at; kind = is }) c.requires.cases has)
+    (lowering_sendable m c.args.resolve.now c.requires.well c.requires.down c.args.id c.args.value _ (stores.adds.resumes.writes types c.args.id.0 (c.requires.writes c.args.id reaches_itself)) k 0 (record { entry = d; stands = at; kind = is }) c.requires.cases has)
 
 pub store_variant-returns : goal.store_variant-returns
 store_variant-returns g t c =
@@ -402,10 +411,11 @@ store_cases-store_case-requires g t c κs within =
     let short : c.loop-i.i < length c.args.payloads.now = omega (arith, c.loop-i-test.true) in
     let below = payload_low c.args.id.0 c.args.payloads.now c.requires.below c.loop-i.i None short in
     let serves = payload_served types c.args.payloads.now c.loop-i.i None c.requires.serves short in
+    let writes = part_resumed m types _ _ (get_or c.args.payloads.now c.loop-i.i None) c.loop-i.invariant.resumes (payload_written m types c.args.bindgen.now c.args.payloads.now c.loop-i.i None c.requires.writes short) in
     let low = payload_ends (shapes types) c.args.payloads.now c.loop-i.i None c.args.place c.requires.low short in
     let side = side_resumed m _ _ c.args.realloc c.loop-i.invariant.resumes c.requires.side in
     let knows = c.loop-i.invariant.resumes.knows types c.requires.knows in
-    (omega arith, (within.0, (within.1, (c.requires.well, (c.requires.down, (c.requires.within, (below, (short, (c.requires.most, (side, (knows, (serves, low))))))))))))
+    (omega arith, (within.0, (within.1, (c.requires.well, (c.requires.down, (c.requires.within, (below, (short, (c.requires.most, (side, (knows, (serves, (writes, low)))))))))))))
 
 pub store_cases-loop-i-preserved : goal.store_cases-loop-i-preserved
 store_cases-loop-i-preserved g t c =
@@ -450,8 +460,9 @@ store_case-store_payload-requires g t c κs within =
     let below = payload_type_low c.args.id.0 c.in-Some.ty (subst (λ (p : Option WitType). payload_below c.args.id.0 p ≡ true) c.in-Some.is c.requires.below) in
     let ss = shapes c.args.resolve.now.types in
     let serves = subst (λ (p : Option WitType). Serves (payload_in ss p)) c.in-Some.is c.requires.serves in
+    let writes = subst (λ (p : Option WitType). WritesPart g.B.Bindgen.meaning c.args.resolve.now.types p c.args.bindgen.now) c.in-Some.is c.requires.writes in
     let low = subst (λ (p : Option WitType). EndsLow (payload_in ss p) c.args.place) c.in-Some.is c.requires.low in
-    (omega arith, (within.0, (within.1, (c.requires.well, (c.requires.down, (c.requires.within, (below, (c.requires.few, (c.requires.most, (c.requires.side, (c.requires.knows, (serves, low))))))))))))
+    (omega arith, (within.0, (within.1, (c.requires.well, (c.requires.down, (c.requires.within, (below, (c.requires.few, (c.requires.most, (c.requires.side, (c.requires.knows, (serves, (writes, low)))))))))))))
 
 pub store_case-returns-in_ok-store_payload-in-Some : goal.store_case-returns-in_ok-store_payload-in-Some
 store_case-returns-in_ok-store_payload-in-Some g t c =
@@ -491,8 +502,10 @@ store_payload-store_type-requires g t c κs within =
     let low : rank c.args.ty ≤ c.args.id.0 = type_ranked c.args.id.0 c.args.ty c.requires.below in
     let below = type_below_table c.args.id.0 (length types) c.args.ty c.requires.below c.requires.within in
     let side = side_later m _ _ c.args.realloc stored.grows (side_later m _ _ c.args.realloc tag.2.adds.grows (side_later m _ _ c.args.realloc name.adds.grows (side_opened m _ _ c.args.realloc opens c.requires.side))) in
+    let opened : Writes m types c.args.ty c.push_block.new.self = λ id reached. opens.lasts.writes types id.0 (c.requires.writes id reached) in
+    let writes = writes_later m types _ _ c.args.ty stored.grows (writes_later m types _ _ c.args.ty tag.2.adds.grows (writes_later m types _ _ c.args.ty name.adds.grows opened)) in
     let knows = stored.grows.knows types (tag.2.adds.grows.knows types (name.adds.grows.knows types (opens.lasts.knows types c.requires.knows))) in
-    (omega (arith, low), (within.0, (within.1, (c.requires.well, (c.requires.down, (below, (side, (knows, (c.requires.serves, c.requires.low)))))))))
+    (omega (arith, low), (within.0, (within.1, (c.requires.well, (c.requires.down, (below, (side, (knows, (c.requires.serves, (writes, c.requires.low))))))))))
 
 pub store_payload-returns : goal.store_payload-returns
 store_payload-returns g t c =

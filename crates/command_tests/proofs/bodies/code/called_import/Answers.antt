@@ -1,6 +1,8 @@
+use Rattle.std.proofs.Common.{true}
 use Rattle.wrapper_closing.proofs.CallsKept.{import_closed}
 use Rattle.wrapper_closing.proofs.Returned.{import_few}
 use Rattle.wrapper_closing.proofs.StepsDeclare.{none_open}
+use Rattle.wrapper_closing.proofs.WrittenParts.{made_writes}
 use Rattle.command_tests.proofs.bodies.code.called_import.Goals as goal
 
 pub call-requires-clause-fresh : goal.call-requires-clause-fresh
@@ -12,3 +14,6 @@ finish-body-requires-clause-closed c =
 
 pub finish-body-requires-clause-few : goal.finish-body-requires-clause-few
 finish-body-requires-clause-few c = import_few c.args.resolve.now.types c.args.func c.in_ok-bindgen.bindgen c.call.new.bindgen c.in_ok-call.ensures.sends
+
+pub call-requires-clause-writes : goal.call-requires-clause-writes
+call-requires-clause-writes c = made_writes c.args.resolve.now.types c.args.func.now true c.args.parts c.in_ok-bindgen.bindgen c.in_ok-bindgen.ensures.made c.requires.writes

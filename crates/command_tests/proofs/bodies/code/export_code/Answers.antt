@@ -1,5 +1,6 @@
 use Rattle.std.proofs.Common.{sym, subst}
 use Rattle.abi_driver.specs.Low.{IsSmallRecord}
+use Rattle.command_tests.proofs.Written.{function_written}
 use Rattle.command_tests.proofs.bodies.code.export_code.Goals as goal
 
 pub called_export-requires-clause-serves : goal.called_export-requires-clause-serves
@@ -7,3 +8,6 @@ called_export-requires-clause-serves c = c.in_ok-func.ensures.serves c.args.reso
 
 pub called_export-requires-clause-small : goal.called_export-requires-clause-small
 called_export-requires-clause-small c = subst (IsSmallRecord c.args.resolve.now.types) (sym c.in_ok-func.ensures.types) c.requires.small
+
+pub called_export-requires-clause-writes : goal.called_export-requires-clause-writes
+called_export-requires-clause-writes c = function_written c.args.resolve.now.types c.in_ok-parts.parts.sites c.in_ok-func.func c.in_ok-parts.ensures.written

@@ -1,12 +1,18 @@
-use Rattle.std.proofs.Common.{◌≤◌, List, Some, length, sym, subst, ◌∙◌, arith}
+use Rattle.std.proofs.Common.{◌≤◌, List, Option, length, sym, subst, ◌∙◌, arith}
 use Rattle.std.specs.Prelude.{IfSome}
 use Rattle.wit_model.proofs.WellFormedLemmas.{types_go_down}
 use Rattle.func_gen.specs.declared.operand.ExprOperand.{ExprOperand}
+use Rattle.func_gen.specs.declared.type_site.TypeSite.{TypeSite}
+use Rattle.func_gen.specs.Written.{CanWrite}
 use Rattle.wrapper_closing.proofs.StepsDeclare.{none_open}
 use Rattle.command_tests.proofs.bodies.memory.stored.Goals as goal
 
 pub lower_to_memory-requires-clause-down : goal.lower_to_memory-requires-clause-down
 lower_to_memory-requires-clause-down c = types_go_down c.args.resolve.now c.requires.unbroken
+
+pub lower_to_memory-requires-clause-writes : goal.lower_to_memory-requires-clause-writes
+lower_to_memory-requires-clause-writes c =
+    λ id reaches. subst (λ (sites : List (Option TypeSite)). CanWrite c.args.resolve.now.types sites id.0) (sym c.in_ok-bindgen.ensures.made.of_sites) (c.in_ok-parts.ensures.written id.0)
 
 pub finish-body-requires-clause-closed : goal.finish-body-requires-clause-closed
 finish-body-requires-clause-closed c =

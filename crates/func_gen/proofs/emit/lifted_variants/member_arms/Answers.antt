@@ -1,7 +1,9 @@
-use Rattle.std.proofs.Common.{◌≡◌, true, ◌∷◌, ◌++◌, [], length, reverse, ap, ap₂, ◌∙◌, subst, arith}
-use Rattle.std.specs.List.{list_all}
+use Rattle.std.proofs.Common.{◌≡◌, false, true, ◌∷◌, ◌++◌, [], length, reverse, ap, ap₂, ◌∙◌, subst, arith}
+use Rattle.std.specs.List.{AllByRecursion, list_all}
 use Rattle.std.proofs.lemmas.List.{length-reverse, reverse-append}
+use Rattle.func_gen.specs.declared.function_bindgen.FinishedBlock.{FinishedBlock}
 use Rattle.func_gen.specs.LiftedCases.{is_liftable}
+use Rattle.func_gen.specs.Scope.{is_used}
 use Rattle.func_gen.proofs.BlocksThere.{split_few}
 use Rattle.func_gen.proofs.emit.lifted_variants.member_arms.Goals as goal
 
@@ -9,7 +11,12 @@ pub lifted_arms-requires-clause-few : goal.lifted_arms-requires-clause-few
 lifted_arms-requires-clause-few c = (split_few c.parted-block.result.0 c.parted-block.result.1 (subst (λ blocks. list_all is_liftable (reverse blocks) ≡ true) c.parted-block.ensures c.requires.few)).1
 
 pub last_arm-requires : goal.last_arm-requires
-last_arm-requires c = record { few = (split_few c.parted-block.result.0 c.parted-block.result.1 (subst (λ blocks. list_all is_liftable (reverse blocks) ≡ true) c.parted-block.ensures c.requires.few)).0 }
+last_arm-requires c =
+    let number = c.args.number in
+    record {
+      few = (split_few c.parted-block.result.0 c.parted-block.result.1 (subst (λ blocks. list_all is_liftable (reverse blocks) ≡ true) c.parted-block.ensures c.requires.few)).0;
+      unnamed = (subst (AllByRecursion (λ (b : FinishedBlock). is_used b.names number ≡ false)) c.parted-block.ensures c.requires.unnamed).0;
+    }
 
 pub returns : goal.returns
 returns c =
@@ -25,7 +32,7 @@ returns c =
       many = length-reverse others ∙ omega (arith, c.requires.many, long);
       few = few.1;
       few_last = few.0;
-      unnamed = c.in_ok-other.ensures.unnamed;
+      unnamed = (subst (AllByRecursion (λ (b : FinishedBlock). is_used b.names c.args.number ≡ false)) is c.requires.unnamed).0;
       inward = c.in_ok-arms.ensures.inward;
       inward_last = c.in_ok-other.ensures.inward;
       are = c.in_ok-push.ensures.ok ∙ ap₂ (λ arms other. arms ++ other ∷ []) c.in_ok-arms.ensures.arms c.in_ok-other.ensures.arm;

@@ -8,6 +8,7 @@ use Rattle.func_gen.specs.BindgenSeen.{seen_bindgen}
 use Rattle.func_gen.proofs.CallRows.{declared_as}
 use Rattle.func_gen.proofs.Declared.{still_fresh}
 use Rattle.func_gen.proofs.Rows.{appends_both, no_code}
+use Rattle.func_gen.proofs.KeptNames.{still_whole}
 use Rattle.func_gen.proofs.function_bindgen.FunctionBindgen.add_statement.Goals as goal
 
 pub returns : goal.returns
@@ -27,6 +28,18 @@ returns c =
       stmts = subst (λ p. Appends old new (declares ∷ stmt.Expr (expr.Call p c.args.arguments) ∷ []) []) c.in_ok-path.ensures both;
       number = t;
       is = c.in_ok-name.ensures;
-      takes = subst (Takes old.scope (λ k. import_name k ∷ []) t) (sym scope) (record { locals = _; named = λ k. refl; declares = c.in_ok-t.ensures });
-      names = still_fresh old mid new (name ∷ []) scope (declared_as old mid _ t (name ∷ []) c.in_ok-t.ensures (ap (λ n. n ∷ []) c.in_ok-name.ensures));
+      takes = subst (Takes old.scope (λ k. import_name k ∷ []) t) (sym scope) (record { locals = _; named = λ k. refl; declares = c.in_ok-t.ensures.declares });
+      names = still_fresh old mid new (name ∷ []) scope (declared_as old mid _ t (name ∷ []) c.in_ok-t.ensures.declares (ap (λ n. n ∷ []) c.in_ok-name.ensures));
     })
+
+pub invariant_of-self : goal.invariant_of-self
+invariant_of-self c = still_whole c.in_err-t.ensures.keeps c.self.invariant
+
+pub invariant_of-self-in_err-name : goal.invariant_of-self-in_err-name
+invariant_of-self-in_err-name c = still_whole c.in_ok-t.ensures.keeps c.self.invariant
+
+pub invariant_of-self-in_err-path : goal.invariant_of-self-in_err-path
+invariant_of-self-in_err-path c = still_whole c.in_ok-t.ensures.keeps c.self.invariant
+
+pub invariant_of-self-2 : goal.invariant_of-self-2
+invariant_of-self-2 c = still_whole c.in_ok-t.ensures.keeps c.self.invariant

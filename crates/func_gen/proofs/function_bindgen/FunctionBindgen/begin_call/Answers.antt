@@ -7,4 +7,6 @@ invariant_of-self c =
     record {
       uncalled = rw (ap (λ (b : FunctionBindgen). b.opened) c.self.view_is ∙ c.requires.closed) tt;
       small = c.self.invariant.small;
+      around = c.self.invariant.around;
+      before = c.self.invariant.before;
     }

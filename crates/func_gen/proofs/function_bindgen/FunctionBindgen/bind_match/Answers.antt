@@ -4,12 +4,13 @@ use Rattle.func_gen.specs.BindgenSeen.{seen_bindgen}
 use Rattle.func_gen.specs.MatchForms.{match_names, result_names}
 use Rattle.func_gen.specs.Scope.{Declares, names_at}
 use Rattle.func_gen.proofs.CallRows.{declared_as}
+use Rattle.func_gen.proofs.KeptNames.{still_whole}
 use Rattle.func_gen.proofs.function_bindgen.FunctionBindgen.bind_match.Goals as goal
 
 pub returns : goal.returns
 returns c =
     let old = seen_bindgen c.self.inside in
-    let d = c.in_ok-names.ensures in
+    let d = c.in_ok-names.ensures.declares in
     let named : (k : ℕ) → names_at c.in_ok-locals.locals k ≡ result_names c.args.count k = c.in_ok-locals.ensures in
     let bound = c.in_ok-bound.ensures ∙ ap match_names c.as_slice-2.ensures in
     rw (← c.self.view_is) (record {
@@ -35,3 +36,18 @@ returns c =
         takes = record { locals = c.in_ok-locals.locals; named = named; declares = subst (λ ns. Declares old.scope ns d.number c.declare_all.new.self) c.as_slice.ensures d.declares };
       };
     })
+
+pub invariant_of-self : goal.invariant_of-self
+invariant_of-self c = still_whole c.in_err-names.ensures.keeps c.self.invariant
+
+pub invariant_of-self-in_err-bound : goal.invariant_of-self-in_err-bound
+invariant_of-self-in_err-bound c = still_whole c.in_ok-names.ensures.keeps c.self.invariant
+
+pub invariant_of-self-in_err-e : goal.invariant_of-self-in_err-e
+invariant_of-self-in_err-e c = still_whole c.in_ok-names.ensures.keeps c.self.invariant
+
+pub invariant_of-self-in_err-push : goal.invariant_of-self-in_err-push
+invariant_of-self-in_err-push c = still_whole c.in_ok-names.ensures.keeps c.self.invariant
+
+pub invariant_of-self-2 : goal.invariant_of-self-2
+invariant_of-self-2 c = still_whole c.in_ok-names.ensures.keeps c.self.invariant

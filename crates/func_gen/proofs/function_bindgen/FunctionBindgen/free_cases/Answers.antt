@@ -21,13 +21,13 @@ use_blocks-requires c =
 pub freed_arms-requires-clause-none : goal.freed_arms-requires-clause-none
 freed_arms-requires-clause-none c =
     let None = λ (b : FinishedBlock). b.results ≡ [] in
-    let none = none_used c.in_ok-blocks.blocks (c.args.count + 1) c.args.self.now c.use_blocks.new.self c.in_ok-blocks.ensures c.requires.blocks in
+    let none = none_used c.in_ok-blocks.blocks (c.args.count + 1) c.args.self.now c.use_blocks.new.self c.in_ok-blocks.ensures.uses c.requires.blocks in
     all_back None c.parted-last.result.1 (subst (AllByRecursion None) c.parted-last.ensures none).1
 
 pub freed_body-requires : goal.freed_body-requires
 freed_body-requires c =
     let None = λ (b : FinishedBlock). b.results ≡ [] in
-    let none = none_used c.in_ok-blocks.blocks (c.args.count + 1) c.args.self.now c.use_blocks.new.self c.in_ok-blocks.ensures c.requires.blocks in
+    let none = none_used c.in_ok-blocks.blocks (c.args.count + 1) c.args.self.now c.use_blocks.new.self c.in_ok-blocks.ensures.uses c.requires.blocks in
     record { none = (subst (AllByRecursion None) c.parted-last.ensures none).0 }
 
 pub returns : goal.returns
@@ -38,7 +38,7 @@ returns c =
     let blocks = c.in_ok-blocks.blocks in
     let last = c.parted-last.result.0 in
     let others = c.parted-last.result.1 in
-    let uses = c.in_ok-blocks.ensures in
+    let uses = c.in_ok-blocks.ensures.uses in
     let is : blocks ≡ last ∷ others = c.parted-last.ensures in
     let long = ap length is in
     let next : c.args.count + 1 ≡ suc c.args.count = omega arith in

@@ -13,7 +13,7 @@ use Rattle.func_gen.proofs.Rows.{appends_both, fresh_since}
 use Rattle.func_gen.proofs.function_bindgen.FunctionBindgen.lift_cases.Goals as goal
 
 pub lifted_arms-requires-clause-few : goal.lifted_arms-requires-clause-few
-lifted_arms-requires-clause-few c = used_few c.in_ok-blocks.blocks (length c.args.cases.now) c.args.self.now c.use_blocks.new.self c.in_ok-blocks.ensures c.requires.few
+lifted_arms-requires-clause-few c = used_few c.in_ok-blocks.blocks (length c.args.cases.now) c.args.self.now c.use_blocks.new.self c.in_ok-blocks.ensures.uses c.requires.few
 
 pub returns : goal.returns
 returns c =
@@ -26,8 +26,8 @@ returns c =
     record {
       used = c.in_ok-blocks.blocks;
       mid = mid;
-      uses = c.in_ok-blocks.ensures;
-      few = used_few c.in_ok-blocks.blocks (length c.args.cases.now) c.args.self.now mid c.in_ok-blocks.ensures c.requires.few;
+      uses = c.in_ok-blocks.ensures.uses;
+      few = used_few c.in_ok-blocks.blocks (length c.args.cases.now) c.args.self.now mid c.in_ok-blocks.ensures.uses c.requires.few;
       inward = c.in_ok-arms.ensures.inward;
       inward_last = ap is_inward (sym c.in_ok-body.ensures.body) ∙ c.in_ok-body.ensures.inward;
       adds = appends_both mid asked c.add_match.new.self [] _ (InvalidEnumDiscriminant ∷ []) [] c.in_ok-ask.ensures.asks added;

@@ -1,20 +1,31 @@
-use Rattle.std.proofs.Common.{◌≡◌, ◌+◌, suc, List, [], ◌∷◌, length, sym, ap, ap₂, ◌∙◌, subst, arith}
+use Rattle.std.proofs.Common.{◌≡◌, ◌+◌, ◌||◌, suc, List, [], ◌∷◌, length, sym, ap, ap₂, ◌∙◌, subst, arith}
 use Rattle.rust_tree.specs.declared.stmt.MatchNames.TheVariants as names_of
 use Rattle.std.specs.Prelude.{codes}
 use Rattle.rust_tree.specs.declared.stmt.Arm.{Arm}
 use Rattle.rust_tree.specs.declared.stmt.Stmt.{Stmt}
 use Rattle.rust_tree.specs.declared.stmt.Stmt.TheVariants as stmt
+use Rattle.wrapper_run.proofs.LocalLemmas.{bytes_eq-same}
+use Rattle.func_gen.specs.declared.function_bindgen.FunctionBindgen.{FunctionBindgen}
 use Rattle.func_gen.specs.declared.scope.Scope.{Scope}
 use Rattle.func_gen.specs.Added.{Appends}
 use Rattle.func_gen.specs.LiftedCases.{LiftsVariantBy}
-use Rattle.func_gen.specs.Scope.{TakesAll, with_number}
+use Rattle.func_gen.specs.Scope.{TakesAll, is_used, with_number}
 use Rattle.func_gen.specs.Uses.{Uses}
 use Rattle.func_gen.proofs.BlocksThere.{used_few}
+use Rattle.func_gen.proofs.KeptNames.{none_has}
 use Rattle.func_gen.proofs.Rows.{appends_both, no_code}
 use Rattle.func_gen.proofs.function_bindgen.FunctionBindgen.lift_members.Goals as goal
 
 pub member_arms-requires-clause-few : goal.member_arms-requires-clause-few
-member_arms-requires-clause-few c = used_few c.in_ok-blocks.blocks (length c.args.cases.now + 1) c.args.self.now c.use_blocks.new.self c.in_ok-blocks.ensures c.requires.few
+member_arms-requires-clause-few c = used_few c.in_ok-blocks.blocks (length c.args.cases.now + 1) c.args.self.now c.use_blocks.new.self c.in_ok-blocks.ensures.uses c.requires.few
+
+pub member_arms-requires-clause-unnamed : goal.member_arms-requires-clause-unnamed
+member_arms-requires-clause-unnamed c =
+    let number = c.in_ok-number.number in
+    let used = c.args.self.now.scope.used in
+    let same = ap (λ (b : FunctionBindgen). b.scope.used) c.in_ok-blocks.ensures.uses.rest in
+    let free = c.in_ok-number.ensures.fresh.free number (ap (λ b. b || is_used (c.in_ok-number.name ∷ []) number) (bytes_eq-same number)) in
+    none_has used number (ap (λ us. is_used us number) (sym same) ∙ free) c.in_ok-blocks.blocks c.in_ok-blocks.ensures.names
 
 pub returns : goal.returns
 returns c =
@@ -42,7 +53,7 @@ returns c =
       last = arms.last;
       split = arms.split;
       many = arms.many;
-      uses = subst (λ k. Uses blocks k old mid) next c.in_ok-blocks.ensures;
+      uses = subst (λ k. Uses blocks k old mid) next c.in_ok-blocks.ensures.uses;
       few = arms.few;
       few_last = arms.few_last;
       unnamed = arms.unnamed;

@@ -1,28 +1,45 @@
-use Rattle.std.proofs.Common.{◌≡◌, ◌+◌, ◌++◌, true, [], ◌∷◌, length, refl, sym, ap, ◌∙◌, subst, arith}
+use Rattle.std.proofs.Common.{◌≡◌, ◌+◌, ◌++◌, true, false, [], ◌∷◌, is_some, length, refl, sym, ap, ◌∙◌, subst, arith}
 use Rattle.std.proofs.lemmas.List.{length-append}
-use Rattle.std.specs.List.{list_all}
 use Rattle.wit_model.specs.Bytes.{Bytes}
 use Rattle.rust_tree.specs.declared.expr.Expr.TheVariants as expr
 use Rattle.abi_bindgen.specs.Cases.{payloads_at}
 use Rattle.abi_bindgen.specs.declared.instruction.Instruction.TheVariants as instruction
 use Rattle.func_gen.specs.declared.function_bindgen.FunctionBindgen.{FunctionBindgen}
-use Rattle.func_gen.specs.CalledCases.{is_called}
 use Rattle.func_gen.specs.CaseForms.{AreVariantForms}
 use Rattle.func_gen.specs.LiftedCases.{LiftsVariantBy}
+use Rattle.func_gen.specs.Written.{CanWrite}
 use Rattle.func_gen.proofs.BlocksThere.{cases_few, cases_there}
 use Rattle.func_gen.proofs.CaseLifted.{variant_made}
-use Rattle.func_gen.proofs.CaseNames.{variant_count, variant_low}
+use Rattle.func_gen.proofs.CaseNames.{each_formed, variant_count, variant_low}
+use Rattle.func_gen.proofs.PayloadsThere.{members_there}
 use Rattle.func_gen.proofs.Rows.{emits_as, pushed}
 use Rattle.func_gen.proofs.function_bindgen.FunctionBindgen.lift_variant.Goals as goal
+
+pub variant_forms-requires-clause-site : goal.variant_forms-requires-clause-site
+variant_forms-requires-clause-site c =
+    let same = c.as_slice.ensures ∙ ap (λ (b : FunctionBindgen). b.sites) c.self.view_is in
+    subst (λ sites. CanWrite c.args.resolve.now.types sites c.args.id.0) (sym same) c.requires.sendable.suits.4
+
+pub unreachable-requires : goal.unreachable-requires
+unreachable-requires c =
+    let r = c.args.resolve.now in
+    let id = c.args.id.0 in
+    let forms = c.in_ok-forms.ensures in
+    let formed = each_formed r.types c.as_slice.result.now id c.in_ok-forms.forms forms in
+    let some = members_there r c.requires.sendable.suits.3 id forms.members forms.kind in
+    let is = ap length c.into_vec-cases.ensures in
+    let there = c.pop.ensures.variant.1 (omega (arith, formed, some, is, c.into_vec-cases.result.ok.0)) in
+    let none : true ≡ false = sym there ∙ ap is_some c.in_default.is in
+    absurd cc
 
 pub lift_members-requires : goal.lift_members-requires
 lift_members-requires c =
     let types = c.args.resolve.now.types in
     let all = c.in_ok-forms.forms in
-    let cases = c.as_slice-3.result.now in
+    let cases = c.as_slice-2.result.now in
     let last = c.in-Some.last in
     let split : all ≡ c.pop.new.self.items ++ last ∷ [] = sym c.into_vec-cases.ensures ∙ c.in-Some.ensures.items in
-    let here : length cases ≡ length c.pop.new.self.items = ap length c.as_slice-3.ensures.value in
+    let here : length cases ≡ length c.pop.new.self.items = ap length c.as_slice-2.ensures.value in
     let parts = ap length split ∙ length-append c.pop.new.self.items (last ∷ []) in
     let long : length all ≡ length cases + 1 = omega (arith, here, parts) in
     let many = variant_count types c.as_slice.result.now c.args.id.0 all c.in_ok-forms.ensures ∙ long in
@@ -38,9 +55,8 @@ returns c =
     let cases = c.pop.new.self.items in
     let last = c.in-Some.last in
     let name = c.in_ok-name.name in
-    let lifts = subst (λ fs. (n : Bytes) × LiftsVariantBy fs last e n name c.args.self.now c.lift_members.new.self) c.as_slice-3.ensures.value c.in_ok-name.ensures in
+    let lifts = subst (λ fs. (n : Bytes) × LiftsVariantBy fs last e n name c.args.self.now c.lift_members.new.self) c.as_slice-2.ensures.value c.in_ok-name.ensures in
     let split : all ≡ cases ++ last ∷ [] = sym c.into_vec-cases.ensures ∙ c.in-Some.ensures.items in
-    let called : list_all is_called all ≡ true = ap (list_all is_called) (sym c.as_slice-2.ensures) ∙ sym c.are_called.ensures ∙ c.if-not-are_called.false in
     let forms = subst (λ sites. AreVariantForms types sites c.args.id.0 all) (c.as_slice.ensures ∙ ap (λ (b : FunctionBindgen). b.sites) c.self.view_is) c.in_ok-forms.ensures in
     emits_as types (instruction.VariantLift c.args.id) _ _ _ _ _ _ c.in_ok-e.ensures.only (pushed c.args.results.now _ _ (expr.Local name) c.in_ok-push.ensures.ok c.requires.empty refl)
-    (variant_made types c.args.id _ _ all cases last e lifts.0 name lifts.1 c.in_ok-e.ensures.operand forms split called)
+    (variant_made types c.args.id _ _ all cases last e lifts.0 name lifts.1 c.in_ok-e.ensures.operand forms split c.requires.sendable.suits.4)

@@ -6,10 +6,16 @@ use Rattle.func_gen.specs.CaseForms.{AreVariantForms}
 use Rattle.func_gen.specs.MatchForms.{LowersBy}
 use Rattle.func_gen.specs.Meaning.{func_meaning}
 use Rattle.func_gen.specs.PartForms.{locals_of}
+use Rattle.func_gen.specs.Written.{CanWrite}
 use Rattle.func_gen.proofs.CaseLowered.{variant_lowered}
 use Rattle.func_gen.proofs.CaseNames.{variant_count}
 use Rattle.func_gen.proofs.Rows.{emits_as}
 use Rattle.func_gen.proofs.function_bindgen.FunctionBindgen.lower_variant.Goals as goal
+
+pub variant_forms-requires-clause-site : goal.variant_forms-requires-clause-site
+variant_forms-requires-clause-site c =
+    let same = c.as_slice.ensures ∙ ap (λ (b : FunctionBindgen). b.sites) c.self.view_is in
+    subst (λ sites. CanWrite c.args.resolve.now.types sites c.args.id.0) (sym same) c.requires.sendable.suits.4
 
 pub lower_cases-requires : goal.lower_cases-requires
 lower_cases-requires c =

@@ -5,6 +5,7 @@ use Rattle.func_gen.specs.declared.operand.ExprOperand.{ExprOperand}
 use Rattle.func_gen.specs.BindgenSeen.{seen_bindgen}
 use Rattle.func_gen.specs.Formed.{block_of}
 use Rattle.func_gen.specs.PartForms.{are_operands}
+use Rattle.func_gen.proofs.KeptNames.{around_kept, closed_kept}
 use Rattle.func_gen.proofs.WholeLemmas.{around_uncalled, innermost_uncalled}
 use Rattle.func_gen.proofs.function_bindgen.FunctionBindgen.resume.Goals as goal
 
@@ -33,6 +34,8 @@ invariant_of-self c =
     record {
       uncalled = rw c.replace-before.ensures.after (around_uncalled c.self.inside.opened _ c.take_last-open.result c.self.inside.code.call c.take_last-open.ensures c.self.invariant.uncalled);
       small = c.self.invariant.small;
+      around = around_kept c.self.inside.opened _ c.take_last-open.result c.self.inside.scope.used c.take_last-open.ensures c.self.invariant.around;
+      before = rw c.in_err-push.ensures.err c.self.invariant.before;
     }
 
 pub invariant_of-self-2 : goal.invariant_of-self-2
@@ -40,4 +43,6 @@ invariant_of-self-2 c =
     record {
       uncalled = rw c.replace-before.ensures.after (around_uncalled c.self.inside.opened _ c.take_last-open.result c.self.inside.code.call c.take_last-open.ensures c.self.invariant.uncalled);
       small = c.self.invariant.small;
+      around = around_kept c.self.inside.opened _ c.take_last-open.result c.self.inside.scope.used c.take_last-open.ensures c.self.invariant.around;
+      before = rw c.in_ok-push.ensures.ok (closed_kept c.self.inside.opened _ c.take_last-open.result c.self.inside.scope.used c.take_last-open.ensures c.self.invariant.around c.self.inside.finished _ refl c.self.invariant.before);
     }

@@ -2,9 +2,11 @@ use Rattle.std.proofs.Common.{List, [], ◌∷◌, ◌++◌, None, refl, ap, ap�
 use Rattle.rust_tree.specs.declared.stmt.Stmt.{Stmt}
 use Rattle.wit_model.specs.Bytes.{Bytes}
 use Rattle.func_gen.specs.declared.function_bindgen.Code.{Code}
+use Rattle.func_gen.specs.declared.function_bindgen.FinishedBlock.{FinishedBlock}
 use Rattle.func_gen.specs.declared.function_bindgen.OpenBlock.{OpenBlock}
 use Rattle.func_gen.specs.BindgenSeen.{seen_bindgen}
 use Rattle.func_gen.specs.Whole.{AreUncalledIn}
+use Rattle.func_gen.proofs.KeptNames.{opened_kept, still_kept, still_whole}
 use Rattle.func_gen.proofs.WholeLemmas.{emptied_uncalled, opened_uncalled}
 use Rattle.func_gen.proofs.function_bindgen.FunctionBindgen.suspend.Goals as goal
 
@@ -18,7 +20,7 @@ returns c =
     rw (← c.self.view_is) (record {
       block = record {
         number = k;
-        takes = c.in_ok-number.ensures;
+        takes = c.in_ok-number.ensures.takes;
         opened = c.in_ok-push.ensures.ok
             ∙ ap₂ (λ (ns : List Bytes) (code : Code). old.opened ++ record { number = k; names = ns; code = code } ∷ []) c.in_ok-names.ensures c.replace-code.ensures.value;
         code = c.replace-code.ensures.after ∙ ap code_of c.new.ensures;
@@ -35,6 +37,8 @@ invariant_of-self-in_err-push c =
     record {
       uncalled = rw (c.in_err-push.ensures.err, c.replace-code.ensures.after) (emptied_uncalled c.self.inside.opened c.self.inside.code.call c.self.invariant.uncalled);
       small = c.self.invariant.small;
+      around = rw c.in_err-push.ensures.err (still_kept (λ (o : OpenBlock). o.names) c.in_ok-number.ensures.keeps c.self.inside.opened c.self.invariant.around);
+      before = still_kept (λ (b : FinishedBlock). b.names) c.in_ok-number.ensures.keeps c.self.inside.finished c.self.invariant.before;
     }
 
 pub invariant_of-self-2 : goal.invariant_of-self-2
@@ -44,4 +48,9 @@ invariant_of-self-2 c =
     record {
       uncalled = rw (c.in_ok-push.ensures.ok, c.replace-code.ensures.after) (opened_uncalled c.self.inside.opened block around);
       small = c.self.invariant.small;
+      around = rw c.in_ok-push.ensures.ok (opened_kept c.self.inside.opened block c.in_ok-names.ensures c.in_ok-number.ensures.keeps c.self.invariant.around);
+      before = still_kept (λ (b : FinishedBlock). b.names) c.in_ok-number.ensures.keeps c.self.inside.finished c.self.invariant.before;
     }
+
+pub invariant_of-self : goal.invariant_of-self
+invariant_of-self c = still_whole c.in_err-number.ensures.keeps c.self.invariant

@@ -14,7 +14,7 @@ use_blocks-requires c =
 pub lowered_arms-requires-clause-each : goal.lowered_arms-requires-clause-each
 lowered_arms-requires-clause-each c =
     let Many = λ (b : FinishedBlock). length b.results ≡ c.args.count in
-    let many = used_many c.in_ok-used.used (length c.args.cases.now) c.args.self.now c.use_blocks.new.self c.in_ok-used.ensures c.args.count c.requires.blocks in
+    let many = used_many c.in_ok-used.used (length c.args.cases.now) c.args.self.now c.use_blocks.new.self c.in_ok-used.ensures.uses c.args.count c.requires.blocks in
     subst (λ blocks. AllByRecursion Many (reverse blocks)) (sym c.into_vec-blocks.ensures) (all_back Many c.in_ok-used.used many)
 
 pub returns : goal.returns
@@ -22,7 +22,7 @@ returns c =
     let same = c.into_vec-blocks.ensures in
     record {
       used = c.in_ok-used.used;
-      uses = c.in_ok-used.ensures;
+      uses = c.in_ok-used.ensures.uses;
       fit = subst (λ blocks. list_all (is_lowerable c.args.count) (reverse blocks) ≡ true) same c.in_ok-arms.ensures.fit;
       are = c.in_ok-arms.ensures.arms ∙ ap (λ blocks. lowered_arms c.args.cases.now (reverse blocks)) same;
     }
