@@ -11,11 +11,11 @@ use Rattle.wit_layout.specs.declared.bitcast.Bitcast.{Bitcast}
 use Rattle.abi_bindgen.specs.declared.instruction.Instruction.TheVariants.{Bitcasts, ConstZero}
 use Rattle.abi_bindgen.specs.Code.{cast_code, zero_code}
 use Rattle.abi_bindgen.specs.Constants.{AreCasts}
+use Rattle.abi_bindgen.specs.Flow.{cast_by, same}
+use Rattle.abi_bindgen.specs.Flows.{Flows}
 use Rattle.abi_bindgen.specs.Instructions.{Emits}
 use Rattle.abi_bindgen.specs.Laws.{Facts, Stays, core_data, ofs}
 use Rattle.abi_bindgen.specs.Meaning.{Meaning}
-use Rattle.abi_bindgen.specs.Sends.{Sends}
-use Rattle.abi_bindgen.specs.Sent.{sends_casts}
 use Rattle.abi_bindgen.specs.SlotCasts.{AddsZeros, AreOrdered, CastsAll, ReadBack, casts_between, is_no_cast}
 use Rattle.abi_bindgen.proofs.Runs.{adds_same}
 use Rattle.abi_bindgen.proofs.WordBits.{are_casts, casts_length, no_casts, ordered_length}
@@ -69,12 +69,12 @@ module _ {Self Operand : Type 0} (m : Meaning Self Operand) (types : List TypeDe
       row = λ ws are. e.row froms tos ws (subst (AreCasts froms tos) (sym is) (are_casts froms tos ordered)) are;
     }
 
-  pub nothing_cast : (froms tos : List WasmType) (a : Self) → list_all is_no_cast (casts_between froms tos) ≡ true → Sends m types (cast_code froms tos) a a
-  nothing_cast froms tos a h = subst (λ b. Sends m types (if b then [] else sends_casts (casts_between froms tos) ∷ []) a a) (sym h) refl
+  pub nothing_cast : (froms tos : List WasmType) (os : List Operand) (a : Self) → list_all is_no_cast (casts_between froms tos) ≡ true → Flows m types (cast_code froms tos) os os a a
+  nothing_cast froms tos os a h = subst (λ b. Flows m types (if b then same else cast_by (casts_between froms tos)) os os a a) (sym h) (refl, refl)
 
-  pub casting_sent : (froms tos : List WasmType) (a b : Self) (held : Bor (List Bitcast)) (os rs : List Operand) → list_all is_no_cast (casts_between froms tos) ≡ false → held.now ≡ casts_between froms tos → Emits m types (Bitcasts held) os rs a b
-      → Sends m types (cast_code froms tos) a b
-  casting_sent froms tos a b held os rs h is e = subst (λ c. Sends m types (if c then [] else sends_casts (casts_between froms tos) ∷ []) a b) (sym h) (held, is, os, rs, b, e, refl)
+  pub casting_flows : (froms tos : List WasmType) (a b : Self) (held : Bor (List Bitcast)) (os rs : List Operand) → list_all is_no_cast (casts_between froms tos) ≡ false → held.now ≡ casts_between froms tos → Emits m types (Bitcasts held) os rs a b
+      → Flows m types (cast_code froms tos) os rs a b
+  casting_flows froms tos a b held os rs h is e = subst (λ c. Flows m types (if c then same else cast_by (casts_between froms tos)) os rs a b) (sym h) (held, is, e)
 
   pub no_zeros : (a : Self) → AddsZeros m [] [] a a
   no_zeros a = record { adds = adds_same m a; fits = refl; row = stays_same a [] }
@@ -82,13 +82,13 @@ module _ {Self Operand : Type 0} (m : Meaning Self Operand) (types : List TypeDe
   pub zeros_sent : (a b : Self) (held : Bor (List WasmType)) (rs : List Operand) → Emits m types (ConstZero held) [] rs a b → AddsZeros m held.now rs a b
   zeros_sent a b held rs e = record { adds = e.adds; fits = e.results; row = e.row }
 
-  pub zeroing_sent : (a b : Self) (held : Bor (List WasmType)) (zeros : List WasmType) (rs : List Operand) → held.now ≡ zeros → 0 < length zeros → Emits m types (ConstZero held) [] rs a b → Sends m types (zero_code zeros) a b
-  zeroing_sent a b held [] rs is some e = absurd (omega (arith, some))
-  zeroing_sent a b held (ty ∷ zeros) rs is some e = (held, is, [], rs, b, e, refl)
+  pub zeroing_flows : (a b : Self) (held : Bor (List WasmType)) (zeros : List WasmType) (rs : List Operand) → held.now ≡ zeros → 0 < length zeros → Emits m types (ConstZero held) [] rs a b → Flows m types (zero_code zeros) [] rs a b
+  zeroing_flows a b held [] rs is some e = absurd (omega (arith, some))
+  zeroing_flows a b held (ty ∷ zeros) rs is some e = (held, is, e)
 
-  pub none_zeros : (zeros : List WasmType) (rs : List Operand) (a : Self) → zeros ≡ [] → rs ≡ [] → AddsZeros m zeros rs a a × Sends m types (zero_code zeros) a a
+  pub none_zeros : (zeros : List WasmType) (rs : List Operand) (a : Self) → zeros ≡ [] → rs ≡ [] → AddsZeros m zeros rs a a × Flows m types (zero_code zeros) [] rs a a
   none_zeros zeros rs a e f =
-      (subst (λ os. AddsZeros m zeros os a a) (sym f) (subst (λ tys. AddsZeros m tys [] a a) (sym e) (no_zeros a)), subst (λ tys. Sends m types (zero_code tys) a a) (sym e) refl)
+      (subst (λ os. AddsZeros m zeros os a a) (sym f) (subst (λ tys. AddsZeros m tys [] a a) (sym e) (no_zeros a)), subst (λ tys. Flows m types (zero_code tys) [] rs a a) (sym e) (f, refl))
 
 -- one cast more changes nothing, or one does
 pub idle_next : (casts : List Bitcast) (i : ℕ) (d : Bitcast) → i < length casts → list_all is_no_cast (drop i casts) ≡ (is_no_cast (get_or casts i d) && list_all is_no_cast (drop (i + 1) casts))

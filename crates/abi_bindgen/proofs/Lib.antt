@@ -8,15 +8,15 @@ pub mod CodeByKind
 pub mod EnumLowers
 pub mod FlagLowers
 pub mod FlatCode
-pub mod InnerSteps
+pub mod FlowSteps
 pub mod LowerSteps
 pub mod Ordinary
 pub mod Payloads
+pub mod QuietFlows
 pub mod Records
 pub mod Runs
 pub mod SaysTypes
 pub mod ScalarRanges
-pub mod SendSteps
 pub mod Serving
 pub mod Taken
 pub mod Variants

@@ -1,5 +1,5 @@
 -- Variants, options and results of the table, and the payloads of their cases.
-use Rattle.std.proofs.Common.{◌≡◌, ℕ, zero, suc, ◌-◌, ◌≤◌, ◌<◌, true, false, List, [], ◌∷◌, ◌++◌, length, map, take, drop, get_or, Option, None, Some, option_map, refl, sym, ap, ◌∙◌, arith}
+use Rattle.std.proofs.Common.{◌≡◌, ℕ, zero, suc, ◌-◌, ◌≤◌, ◌<◌, true, false, List, [], ◌∷◌, length, map, take, drop, get_or, Option, None, Some, option_map, refl, sym, ap, ◌∙◌, arith}
 use Rattle.std.specs.List.{list_all}
 use Rattle.std.proofs.lemmas.Bool.{and_parts}
 use Rattle.std.proofs.lemmas.Bool.Decides.{nat_tests}
@@ -29,19 +29,17 @@ use Rattle.wrapper_meaning.specs.Shape.Shape.{cases, fields}
 use Rattle.wrapper_meaning.specs.Shape.Shapes.{none, more}
 use Rattle.wrapper_meaning.proofs.ShapeIsByKind.{shape_is_by_kind}
 use Rattle.abi_bindgen.specs.Cases.{payloads_at, payloads_of, payloads_or}
-use Rattle.abi_bindgen.specs.Code.{by_case, case_words, each, each_case, payload_words, payloads_there, shared_slots}
+use Rattle.abi_bindgen.specs.Code.{by_case, case_words, payload_words, payloads_there, shared_slots}
 use Rattle.abi_bindgen.specs.HasList.{IsKindOf}
 use Rattle.abi_bindgen.specs.Instructions.{has_cases}
 use Rattle.abi_bindgen.specs.Parts.{count}
-use Rattle.abi_bindgen.specs.Sent.{Sent}
 use Rattle.wit_model.proofs.BelowLemmas.{payload_below_more}
 
--- the code of each case, of what was made for the payloads that there are
-pub each_case_each : {A : Type 0} (f : ℕ → Option WitType → Option A → List Sent) (g : WitType → A) (n : ℕ) (payloads : List (Option WitType))
-    → each_case f n payloads (by_case payloads (map g (payloads_there payloads))) ≡ each (λ n payload. f n payload (option_map g payload)) n payloads
-each_case_each f g n [] = refl
-each_case_each f g n (None ∷ payloads) = ap (λ steps. f n None None ++ steps) (each_case_each f g (suc n) payloads)
-each_case_each f g n (Some ty ∷ payloads) = ap (λ steps. f n (Some ty) (Some (g ty)) ++ steps) (each_case_each f g (suc n) payloads)
+-- each payload that there is with what was made for it
+pub by_case_map : {A : Type 0} (g : WitType → A) (payloads : List (Option WitType)) → by_case payloads (map g (payloads_there payloads)) ≡ map (option_map (λ ty. (ty, g ty))) payloads
+by_case_map g [] = refl
+by_case_map g (None ∷ payloads) = ap (λ parts. None ∷ parts) (by_case_map g payloads)
+by_case_map g (Some ty ∷ payloads) = ap (λ parts. Some (ty, g ty) ∷ parts) (by_case_map g payloads)
 
 pub count_payloads : (ss : List Shape) (payloads : List (Option WitType)) → count (payloads_in ss payloads) ≡ length payloads
 count_payloads ss [] = refl

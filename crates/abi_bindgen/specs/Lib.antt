@@ -10,6 +10,8 @@ pub mod Constants
 pub mod Entries
 pub mod FixedLists
 pub mod FlagSets
+pub mod Flow
+pub mod Flows
 pub mod Frees
 pub mod Handles
 pub mod HasList
@@ -27,7 +29,6 @@ pub mod Parts
 pub mod Places
 pub mod Requested
 pub mod ScalarTouches
-pub mod Sends
 pub mod Sent
 pub mod Served
 pub mod SlotCasts

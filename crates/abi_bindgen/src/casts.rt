@@ -1,9 +1,9 @@
 //! Words are cast to the types of other words, and zeros are made.
 
-ghost use Rattle.std.specs.Prelude.{◌≡◌, length, IfOk, OnOk};
+ghost use Rattle.std.specs.Prelude.{◌≡◌, [], length, IfOk, OnOk};
 ghost use Rattle.std.specs.List.{list_all};
 ghost use Rattle.abi_bindgen.specs.Code.{cast_code, zero_code};
-ghost use Rattle.abi_bindgen.specs.Sends.{Sends};
+ghost use Rattle.abi_bindgen.specs.Flows.{Flows};
 ghost use Rattle.abi_bindgen.specs.SlotCasts.{AddsZeros, AreOrdered, CastsAll, ReadBack, casts_between, is_no_cast};
 
 use crate::bindgen::Bindgen;
@@ -66,7 +66,7 @@ pub fn cast_words<B: Bindgen>(
     requires enough { length words ≡ length froms.now }
     ensures casts { IfOk result (λ os. CastsAll B.meaning froms.now tos.now words os bindgen.old bindgen.new) }
     ensures back { OnOk result (ReadBack froms.now tos.now) }
-    ensures sends { OnOk result (Sends B.meaning resolve.now.types (cast_code froms.now tos.now) bindgen.old bindgen.new) }
+    ensures flows { IfOk result (λ os. Flows B.meaning resolve.now.types (cast_code froms.now tos.now) words os bindgen.old bindgen.new) }
 {
     let casts = casts_between(alloc, froms, tos)?;
     let casts = casts.as_slice();
@@ -85,7 +85,7 @@ pub(crate) fn zero_words<B: Bindgen>(
     types: &[WasmType],
 ) -> Result<List<B::Operand>, OutOfMemory>
     ensures zeros { IfOk result (λ os. AddsZeros B.meaning types.now os bindgen.old bindgen.new) }
-    ensures sends { OnOk result (Sends B.meaning resolve.now.types (zero_code types.now) bindgen.old bindgen.new) }
+    ensures flows { IfOk result (λ os. Flows B.meaning resolve.now.types (zero_code types.now) [] os bindgen.old bindgen.new) }
 {
     if types.len() == 0 {
         return Ok(List::new(alloc));

@@ -3,7 +3,7 @@
 pub(crate) mod leaf;
 pub(crate) mod variants;
 
-ghost use Rattle.std.specs.Prelude.{◌≡◌, ◌<◌, ◌≤◌, ◌^◌, IsTrue, Some, true, length, IfOk, OnOk};
+ghost use Rattle.std.specs.Prelude.{◌≡◌, ◌<◌, ◌≤◌, ◌^◌, IsTrue, List, [], ◌∷◌, Some, true, length, IfOk, OnOk};
 ghost use Rattle.std.specs.List.{AllByRecursion, list_all};
 ghost use Rattle.std.specs.Option.{option_map};
 ghost use Rattle.wit_model.specs.TypeOrder.{GoesDown, payload_below, type_below};
@@ -14,11 +14,12 @@ ghost use Rattle.wrapper_meaning.specs.Shape.{payload_in, payloads_in, shape_at,
 ghost use Rattle.wrapper_meaning.specs.Shape.Shape.{cases};
 ghost use Rattle.wrapper_meaning.specs.Shape.Shapes.{none, more};
 ghost use Rattle.abi_bindgen.specs.CaseBlocks.{LowersCases};
-ghost use Rattle.abi_bindgen.specs.Code.{case_words, each, lower_case, lower_code, payload_words, shared_slots};
+ghost use Rattle.abi_bindgen.specs.Code.{blocks_of_cases, case_words, lower_case, lower_code, payload_words, shared_slots};
 ghost use Rattle.abi_bindgen.specs.HasList.{IsKindOf};
 ghost use Rattle.abi_bindgen.specs.Instructions.{IsSide, has_cases, shapes_of};
 ghost use Rattle.abi_bindgen.specs.Lowers.{LowersAll, LowersFlat};
-ghost use Rattle.abi_bindgen.specs.Sends.{Sends};
+ghost use Rattle.abi_bindgen.specs.Flow.{each, in_block};
+ghost use Rattle.abi_bindgen.specs.Flows.{Flows};
 ghost use Rattle.abi_bindgen.specs.Served.{Serves, ServesAll};
 ghost use Rattle.abi_bindgen.specs.SlotCasts.{FitIn};
 ghost use Rattle.abi_bindgen.specs.WordCount.{word_count, word_counts};
@@ -56,7 +57,7 @@ pub fn lower_flat<B: Bindgen>(
     requires writes { Writes B.meaning resolve.now.types ty.now bindgen.old }
     requires few { word_count resolve.now.types ty.now ≤ 16 }
     ensures lowers { IfOk result (λ os. LowersFlat B.meaning realloc (shape_of resolve.now.types ty.now) value os bindgen.old bindgen.new) }
-    ensures sends { OnOk result (Sends B.meaning resolve.now.types (lower_code resolve.now.types realloc ty.now) bindgen.old bindgen.new) }
+    ensures flows { IfOk result (λ os. Flows B.meaning resolve.now.types (lower_code resolve.now.types realloc ty.now) (value ∷ []) os bindgen.old bindgen.new) }
 {
     lower_type(alloc, resolve, bindgen, value, *ty, realloc)
 }
@@ -80,7 +81,7 @@ fn lower_type<B: Bindgen>(
     requires writes { Writes B.meaning resolve.now.types ty bindgen.old }
     requires few { word_count resolve.now.types ty ≤ 16 }
     ensures lowers { IfOk result (λ os. LowersFlat B.meaning realloc (shape_of resolve.now.types ty) value os bindgen.old bindgen.new) }
-    ensures sends { OnOk result (Sends B.meaning resolve.now.types (lower_code resolve.now.types realloc ty) bindgen.old bindgen.new) }
+    ensures flows { IfOk result (λ os. Flows B.meaning resolve.now.types (lower_code resolve.now.types realloc ty) (value ∷ []) os bindgen.old bindgen.new) }
 {
     if let Some(inst) = scalar_lowering(ty) {
         let words = lower_by(alloc, resolve, bindgen, value, inst)?;
@@ -115,7 +116,7 @@ fn lower_id<B: Bindgen>(
     requires writes { Writes B.meaning resolve.now.types (Id id) bindgen.old }
     requires few { word_count resolve.now.types (Id id) ≤ 16 }
     ensures lowers { IfOk result (λ os. LowersFlat B.meaning realloc (shape_at resolve.now.types id.0) value os bindgen.old bindgen.new) }
-    ensures sends { OnOk result (Sends B.meaning resolve.now.types (lower_code resolve.now.types realloc (Id id)) bindgen.old bindgen.new) }
+    ensures flows { IfOk result (λ os. Flows B.meaning resolve.now.types (lower_code resolve.now.types realloc (Id id)) (value ∷ []) os bindgen.old bindgen.new) }
 {
     let types = resolve.types.as_slice();
     let at = id.0 as usize;
@@ -167,7 +168,7 @@ fn lower_record<B: Bindgen>(
     requires writes { Writes B.meaning resolve.now.types (Id id) bindgen.old }
     requires few { word_count resolve.now.types (Id id) ≤ 16 }
     ensures lowers { IfOk result (λ os. LowersFlat B.meaning realloc (shape_at resolve.now.types id.0) value os bindgen.old bindgen.new) }
-    ensures sends { OnOk result (Sends B.meaning resolve.now.types (lower_code resolve.now.types realloc (Id id)) bindgen.old bindgen.new) }
+    ensures flows { IfOk result (λ os. Flows B.meaning resolve.now.types (lower_code resolve.now.types realloc (Id id)) (value ∷ []) os bindgen.old bindgen.new) }
 {
     let tys = field_types(alloc, members.as_slice())?;
     let parts = lower_by(alloc, resolve, bindgen, value, Instruction::RecordLower(id))?;
@@ -196,7 +197,7 @@ fn lower_tuple<B: Bindgen>(
     requires writes { Writes B.meaning resolve.now.types (Id id) bindgen.old }
     requires few { word_count resolve.now.types (Id id) ≤ 16 }
     ensures lowers { IfOk result (λ os. LowersFlat B.meaning realloc (shape_at resolve.now.types id.0) value os bindgen.old bindgen.new) }
-    ensures sends { OnOk result (Sends B.meaning resolve.now.types (lower_code resolve.now.types realloc (Id id)) bindgen.old bindgen.new) }
+    ensures flows { IfOk result (λ os. Flows B.meaning resolve.now.types (lower_code resolve.now.types realloc (Id id)) (value ∷ []) os bindgen.old bindgen.new) }
 {
     let tys = members.as_slice();
     let inst = Instruction::TupleLower(part_count(tys));
@@ -226,7 +227,7 @@ fn lower_variant<B: Bindgen>(
     requires writes { Writes B.meaning resolve.now.types (Id id) bindgen.old }
     requires few { word_count resolve.now.types (Id id) ≤ 16 }
     ensures lowers { IfOk result (λ os. LowersFlat B.meaning realloc (shape_at resolve.now.types id.0) value os bindgen.old bindgen.new) }
-    ensures sends { OnOk result (Sends B.meaning resolve.now.types (lower_code resolve.now.types realloc (Id id)) bindgen.old bindgen.new) }
+    ensures flows { IfOk result (λ os. Flows B.meaning resolve.now.types (lower_code resolve.now.types realloc (Id id)) (value ∷ []) os bindgen.old bindgen.new) }
 {
     let payloads = kind_payloads(alloc, kind)?;
     let payloads = payloads.as_slice();
@@ -258,8 +259,8 @@ fn lower_cases<B: Bindgen>(
     ensures words { IfOk result (λ n. n ≡ case_words resolve.now.types payloads.now) }
     ensures few { OnOk result (length payloads.now ≤ 2 ^ 31) }
     ensures lowers { OnOk result (LowersCases B.meaning realloc (payloads_in (shapes resolve.now.types) payloads.now) 0 (shared_slots resolve.now.types payloads.now) bindgen.old bindgen.new) }
-    ensures sends { OnOk result (Sends B.meaning resolve.now.types
-        (each (λ n payload. lower_case resolve.now.types (shared_slots resolve.now.types payloads.now) n payload (option_map (lower_code resolve.now.types realloc) payload)) 0 payloads.now) bindgen.old bindgen.new) }
+    ensures flows { OnOk result ((reads : List B.Operand) → Flows B.meaning resolve.now.types
+        (blocks_of_cases 0 (lower_case resolve.now.types (shared_slots resolve.now.types payloads.now)) (lower_code resolve.now.types realloc) payloads.now) reads [] bindgen.old bindgen.new) }
 {
     let flat = flat_types(resolve, &WitType::Id(id));
     let slots = &flat.words[1..flat.count as usize];
@@ -291,7 +292,7 @@ fn lower_case<B: Bindgen>(
     requires writes { WritesPart B.meaning resolve.now.types payload bindgen.old }
     requires sixteen { length slots.now ≤ 16 }
     ensures lowers { OnOk result (LowersCases B.meaning realloc (more (payload_in (shapes resolve.now.types) payload) none) number slots.now bindgen.old bindgen.new) }
-    ensures sends { OnOk result (Sends B.meaning resolve.now.types (lower_case resolve.now.types slots.now number payload (option_map (lower_code resolve.now.types realloc) payload)) bindgen.old bindgen.new) }
+    ensures flows { OnOk result (Flows B.meaning resolve.now.types (in_block (lower_case resolve.now.types slots.now number (option_map (λ ty. (ty, lower_code resolve.now.types realloc ty)) payload))) [] [] bindgen.old bindgen.new) }
 {
     match payload {
         None => {
@@ -323,7 +324,7 @@ fn lower_payload<B: Bindgen>(
     requires writes { Writes B.meaning resolve.now.types ty bindgen.old }
     requires sixteen { length slots.now ≤ 16 }
     ensures lowers { OnOk result (LowersCases B.meaning realloc (more (shape_of resolve.now.types ty) none) number slots.now bindgen.old bindgen.new) }
-    ensures sends { OnOk result (Sends B.meaning resolve.now.types (lower_case resolve.now.types slots.now number (Some ty) (Some (lower_code resolve.now.types realloc ty))) bindgen.old bindgen.new) }
+    ensures flows { OnOk result (Flows B.meaning resolve.now.types (in_block (lower_case resolve.now.types slots.now number (Some (ty, lower_code resolve.now.types realloc ty)))) [] [] bindgen.old bindgen.new) }
 {
     let flat = flat_types(resolve, &ty);
     let count = flat.count as usize;
@@ -361,7 +362,7 @@ fn lower_parts<B: Bindgen>(
     requires writes { WritesEach B.meaning resolve.now.types tys.now bindgen.old }
     requires few { word_counts resolve.now.types tys.now ≤ 16 }
     ensures lowers { IfOk result (λ os. LowersAll B.meaning realloc (shapes_of resolve.now.types tys.now) parts.now os bindgen.old bindgen.new) }
-    ensures sends { OnOk result (Sends B.meaning resolve.now.types (each (λ n ty. lower_code resolve.now.types realloc ty) 0 tys.now) bindgen.old bindgen.new) }
+    ensures flows { IfOk result (λ os. Flows B.meaning resolve.now.types (each 0 (λ ty. 1) (λ n ty. lower_code resolve.now.types realloc ty) 0 tys.now) parts.now os bindgen.old bindgen.new) }
 {
     let mut all = Vec::new(alloc);
     for i in 0..tys.len() {

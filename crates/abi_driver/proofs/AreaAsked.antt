@@ -1,5 +1,5 @@
 -- The area is asked for a value of a type, or for a record of some types.
-use Rattle.std.proofs.Common.{◌≡◌, true, false, nat_eq, if◌then◌else◌, List, refl, sym, ap, ap₂, ◌∙◌, subst, arith}
+use Rattle.std.proofs.Common.{◌≡◌, true, false, nat_eq, if◌then◌else◌, List, refl, sym, ap, ap₂, ◌∙◌, subst, arith, [], ◌∷◌}
 use Rattle.std.proofs.lemmas.Bool.{eq-eqb, ne_eqb}
 use Rattle.wit_model.specs.declared.size.Alignment.{Alignment}
 use Rattle.wit_model.specs.declared.size.Alignment.TheVariants.{Bytes, Pointer}
@@ -21,7 +21,7 @@ use Rattle.abi_driver.specs.Imports.{Points}
 use Rattle.abi_bindgen.specs.Instructions.{shapes_of}
 use Rattle.abi_bindgen.specs.Laws.{PointsTo}
 use Rattle.abi_bindgen.specs.Meaning.{Meaning}
-use Rattle.abi_bindgen.specs.Sends.{Sends}
+use Rattle.abi_bindgen.specs.Flows.{Flows}
 use Rattle.abi_driver.proofs.PartOffsets.{pair_is}
 use Rattle.abi_driver.proofs.RecordPlaces.{record_layout}
 
@@ -57,11 +57,11 @@ record_told t tree size align e s a = (
 )
 
 module _ {Self Operand : Type 0} (m : Meaning Self Operand) where
-  sends_ask : (types : List TypeDef) (t : Shape) (tree : Tree) (size : ArchitectureSize) (align : Alignment) (o : Operand) (old new : Self) → tree ≡ layout t → IsPairOf size (λ w. elem_size w tree) → IsAlignmentOf align (λ w. alignment w tree)
-      → PointsTo m (record { size = size; align = align }) o old new → Sends m types (ask_for t) old new
-  sends_ask types t tree size align o old new e s a h =
+  flows_ask : (types : List TypeDef) (t : Shape) (tree : Tree) (size : ArchitectureSize) (align : Alignment) (o : Operand) (old new : Self) → tree ≡ layout t → IsPairOf size (λ w. elem_size w tree) → IsAlignmentOf align (λ w. alignment w tree)
+      → PointsTo m (record { size = size; align = align }) o old new → Flows m types (ask_for t) [] (o ∷ []) old new
+  flows_ask types t tree size align o old new e s a h =
       let told = record_told t tree size align e s a in
-      (o, new, subst (λ (x : Asked). PointsTo m x o old new) (ap₂ (λ (x : ArchitectureSize) (y : Alignment). record { size = x; align = y }) told.0 told.1) h, refl)
+      (refl, o, refl, subst (λ (x : Asked). PointsTo m x o old new) (ap₂ (λ (x : ArchitectureSize) (y : Alignment). record { size = x; align = y }) told.0 told.1) h)
 
   points_as : (t : Shape) (tree : Tree) (size : ArchitectureSize) (align : Alignment) (o : Operand) (old new : Self) → tree ≡ layout t → IsPairOf size (λ w. elem_size w tree) → IsAlignmentOf align (λ w. alignment w tree)
       → PointsTo m (record { size = size; align = align }) o old new → Points m t o old new
@@ -78,10 +78,10 @@ module _ {Self Operand : Type 0} (m : Meaning Self Operand) where
 
   -- and an area was asked for nothing else
 
-  pub sends_asking : (types : List TypeDef) (ty : WitType) (size : ArchitectureSize) (align : Alignment) (o : Operand) (old new : Self) → IsPairOf size (λ w. elem_size w (tree_of types ty)) → IsAlignmentOf align (λ w. alignment w (tree_of types ty))
-      → PointsTo m (record { size = size; align = align }) o old new → Sends m types (ask_for (shape_of types ty)) old new
-  sends_asking types ty size align o old new s a h = sends_ask types (shape_of types ty) (tree_of types ty) size align o old new (sym (layout_is_tree types ty)) s a h
+  pub flows_asking : (types : List TypeDef) (ty : WitType) (size : ArchitectureSize) (align : Alignment) (o : Operand) (old new : Self) → IsPairOf size (λ w. elem_size w (tree_of types ty)) → IsAlignmentOf align (λ w. alignment w (tree_of types ty))
+      → PointsTo m (record { size = size; align = align }) o old new → Flows m types (ask_for (shape_of types ty)) [] (o ∷ []) old new
+  flows_asking types ty size align o old new s a h = flows_ask types (shape_of types ty) (tree_of types ty) size align o old new (sym (layout_is_tree types ty)) s a h
 
-  pub sends_asking_record : (types : List TypeDef) (tys : List WitType) (size : ArchitectureSize) (align : Alignment) (o : Operand) (old new : Self) → IsPairOf size (λ w. elem_size w (record_of types tys)) → IsAlignmentOf align (λ w. alignment w (record_of types tys))
-      → PointsTo m (record { size = size; align = align }) o old new → Sends m types (ask_for (fields (shapes_of types tys))) old new
-  sends_asking_record types tys size align o old new s a h = sends_ask types (fields (shapes_of types tys)) (record_of types tys) size align o old new (record_layout m.width types tys) s a h
+  pub flows_asking_record : (types : List TypeDef) (tys : List WitType) (size : ArchitectureSize) (align : Alignment) (o : Operand) (old new : Self) → IsPairOf size (λ w. elem_size w (record_of types tys)) → IsAlignmentOf align (λ w. alignment w (record_of types tys))
+      → PointsTo m (record { size = size; align = align }) o old new → Flows m types (ask_for (fields (shapes_of types tys))) [] (o ∷ []) old new
+  flows_asking_record types tys size align o old new s a h = flows_ask types (fields (shapes_of types tys)) (record_of types tys) size align o old new (record_layout m.width types tys) s a h

@@ -1,5 +1,5 @@
 -- What is sent for the arguments and the result of a call, by how they pass.
-use Rattle.std.proofs.Common.{◌≡◌, ℕ, suc, ◌+◌, ◌≤◌, Bool, true, false, if◌then◌else◌, MatchBool, List, [], ◌∷◌, ◌++◌, length, drop, Option, None, Some, refl, sym, ap, ◌∙◌, arith}
+use Rattle.std.proofs.Common.{◌≡◌, ℕ, suc, ◌+◌, ◌≤◌, Bool, true, false, if◌then◌else◌, MatchBool, List, [], ◌∷◌, ◌++◌, append_assoc, length, drop, Option, None, Some, refl, sym, ap, ◌∙◌, arith, subst}
 use Rattle.std.proofs.lemmas.Bool.{ltb-false}
 use Rattle.std.specs.Prelude.{option_to_list}
 use Rattle.std.specs.Option.{option_map}
@@ -13,7 +13,7 @@ use Rattle.wit_layout.specs.Tree.{tree_of}
 use Rattle.wrapper_meaning.specs.Represents.{is_indirect, result_words}
 use Rattle.wrapper_meaning.specs.Shape.{Shape, shape_of}
 use Rattle.abi_bindgen.specs.declared.instruction.Instruction.TheVariants.{GetArg}
-use Rattle.abi_bindgen.specs.Code.{ask_for, get_arguments, give_code, lift_arguments, lift_code, load_code, lower_code, point_code, read_code, store_code}
+use Rattle.abi_bindgen.specs.Code.{ask_for, get_arguments, give_code, lift_arguments, lift_code, load_code, lower_code, point_code, read_code, store_answer_code}
 use Rattle.abi_driver.specs.Exports.{GivesAnswer, StoresAnswer}
 use Rattle.abi_bindgen.specs.Frees.{nowhere}
 use Rattle.abi_driver.specs.Imports.{LoadsAnswer, ReadsAnswer}
@@ -21,40 +21,40 @@ use Rattle.abi_bindgen.specs.Instructions.{Emits}
 use Rattle.abi_bindgen.specs.Lifts.{LiftsAnswer}
 use Rattle.abi_bindgen.specs.Lowers.{LowersAnswer}
 use Rattle.abi_bindgen.specs.Meaning.{Meaning}
-use Rattle.abi_bindgen.specs.Sends.{Sends}
-use Rattle.abi_bindgen.specs.Sent.{sends}
-use Rattle.abi_bindgen.proofs.SendSteps.{each_last, sends_as, sends_both, sends_one}
+use Rattle.abi_bindgen.specs.Flow.{emit, leave_none, leading, behind, both, ◌>>>◌}
+use Rattle.abi_bindgen.specs.Flows.{Flows}
+use Rattle.abi_bindgen.proofs.FlowSteps.{flows_as, flows_both, flows_one_more, flows_then}
 
 -- 1. Words of arguments
 
 -- only how many there are tells
-gets_same : {A B : Type 0} (first : ℕ) (xs : List A) (ys : List B) → length xs ≡ length ys → get_arguments first xs ≡ get_arguments first ys
-gets_same first [] [] e = refl
-gets_same first [] (y ∷ ys) e = absurd (omega (arith, e))
-gets_same first (x ∷ xs) [] e = absurd (omega (arith, e))
-gets_same first (x ∷ xs) (y ∷ ys) e = ap (λ steps. sends (GetArg first) ∷ steps) (gets_same (suc first) xs ys (omega (arith, e)))
+gets_same : {A B : Type 0} (start : ℕ) (xs : List A) (ys : List B) → length xs ≡ length ys → get_arguments start xs ≡ get_arguments start ys
+gets_same start [] [] e = refl
+gets_same start [] (y ∷ ys) e = absurd (omega (arith, e))
+gets_same start (x ∷ xs) [] e = absurd (omega (arith, e))
+gets_same start (x ∷ xs) (y ∷ ys) e = ap (λ code. both (leading 0 >>> emit (GetArg start)) (both (leading 0) (behind 0) >>> code)) (gets_same (suc start) xs ys (omega (arith, e)))
 
 module _ {Self Operand : Type 0} (m : Meaning Self Operand) (types : List TypeDef) where
-  pub gets_next : (first n : ℕ) (os now : List Operand) (a b c : Self) (o : Operand) → length os ≡ n → now ≡ os ++ o ∷ [] → Sends m types (get_arguments first os) a b → Emits m types (GetArg (first + n)) [] (o ∷ []) b c → Sends m types (get_arguments first now) a c
-  gets_next first n os now a b c o many is h e =
-      sends_as m types (get_arguments first os ++ sends (GetArg (first + n)) ∷ []) (get_arguments first now) a c
-      (ap (get_arguments first) is ∙ each_last (λ k word. sends (GetArg k) ∷ []) first os o ∙ ap (λ k. get_arguments first os ++ sends (GetArg (first + k)) ∷ []) many)
-      (sends_both m types (get_arguments first os) (sends (GetArg (first + n)) ∷ []) a b c h (sends_one m types (GetArg (first + n)) [] (o ∷ []) b c e))
+  pub gets_next : (start n : ℕ) (os now : List Operand) (a b c : Self) (o : Operand) → length os ≡ n → now ≡ os ++ o ∷ [] → Flows m types (get_arguments start os) [] os a b → Emits m types (GetArg (start + n)) [] (o ∷ []) b c → Flows m types (get_arguments start now) [] now a c
+  gets_next start n os now a b c o many is h e =
+      let here = subst (λ k. Emits m types (GetArg (start + k)) [] (o ∷ []) b c) (sym many) e in
+      subst (λ xs. Flows m types (get_arguments start xs) [] xs a c) (sym is) (flows_one_more m types (λ k word. emit (GetArg k)) start os o [] os (o ∷ []) a b c h here)
 
-  -- what sends the code of the arguments from one on, with what was sent before it, sends that of all
-  abbrev pub Rest : List WitType → (i first : ℕ) → (a b : Self) → Type 0
-  Rest tys i first a b = (new : Self) → Sends m types (lift_arguments types first (drop i tys)) b new → Sends m types (lift_arguments types 0 tys) a new
+  -- what flows for the arguments from one on, flows for all, behind values that were lifted
+  abbrev pub Rest : List WitType → (i start : ℕ) → (values : List Operand) → (a b : Self) → Type 0
+  Rest tys i start values a b = (new : Self) (gives : List Operand) → Flows m types (lift_arguments types start (drop i tys)) [] gives b new → Flows m types (lift_arguments types 0 tys) [] (values ++ gives) a new
 
-  pub rest_next : (tys : List WitType) (i first n : ℕ) (words : List Operand) (a b c d : Self) (ty : WitType) → drop i tys ≡ ty ∷ drop (i + 1) tys → length (flatten_type (tree_of types ty)) ≡ n → length words ≡ n
-      → Sends m types (get_arguments first words) b c → Sends m types (lift_code types ty) c d → Rest tys i first a b → Rest tys (i + 1) (first + n) a d
-  rest_next tys i first n words a b c d ty et flat many reads lifts rest new later =
+  pub rest_next : (tys : List WitType) (i start n : ℕ) (words values now : List Operand) (x : Operand) (a b c d : Self) (ty : WitType) → drop i tys ≡ ty ∷ drop (i + 1) tys → length (flatten_type (tree_of types ty)) ≡ n → length words ≡ n
+      → now ≡ values ++ x ∷ [] → Flows m types (get_arguments start words) [] words b c → Flows m types (lift_code types ty) words (x ∷ []) c d → Rest tys i start values a b → Rest tys (i + 1) (start + n) now a d
+  rest_next tys i start n words values now x a b c d ty et flat many is reads lifts rest new gives later =
       let all = flatten_type (tree_of types ty) in
       let left = drop (i + 1) tys in
-      let one = sends_both m types (get_arguments first words) (lift_code types ty) b c d reads lifts in
-      let here = sends_both m types (get_arguments first words ++ lift_code types ty) (lift_arguments types (first + n) left) b d new one later in
-      rest new (sends_as m types (get_arguments first words ++ lift_code types ty ++ lift_arguments types (first + n) left) (lift_arguments types first (drop i tys)) b new
-      (ap (lift_arguments types first) et ∙ ap (λ steps. steps ++ lift_code types ty ++ lift_arguments types (first + length all) left) (gets_same first all words (flat ∙ sym many)) ∙ ap (λ k. get_arguments first words ++ lift_code types ty ++ lift_arguments types (first + k) left) flat)
-      here)
+      let got = flows_as m types (get_arguments start words) (get_arguments start all) [] words b c (gets_same start all words (flat ∙ sym many)) reads in
+      let one = flows_then m types (get_arguments start all) (lift_code types ty) [] words (x ∷ []) b c d got lifts in
+      let others = subst (λ k. Flows m types (lift_arguments types (start + k) left) [] gives d new) (sym flat) later in
+      let here = flows_both m types (get_arguments start all >>> lift_code types ty) (lift_arguments types (start + length all) left) [] (x ∷ []) gives b d new one others in
+      let whole = rest new (x ∷ gives) (flows_as m types (lift_arguments types start (ty ∷ left)) (lift_arguments types start (drop i tys)) [] (x ∷ gives) b new (ap (lift_arguments types start) et) here) in
+      subst (λ os. Flows m types (lift_arguments types 0 tys) [] os a new) (sym (append_assoc values (x ∷ []) gives) ∙ ap (λ os. os ++ gives) (sym is)) whole
 
   -- 2. How many operands are given
 
@@ -91,7 +91,7 @@ few_words r = by (is_indirect r) refl
 
 module _ (types : List TypeDef) (r : Option WitType) (ty : WitType) (is : r ≡ Some ty) where
   pub point_area : is_indirect (Some (shape_of types ty)) ≡ true → point_code types r ≡ ask_for (shape_of types ty)
-  point_area many = ap (point_code types) is ∙ ap (λ q. if q then ask_for (shape_of types ty) else []) many
+  point_area many = ap (point_code types) is ∙ ap (λ q. if q then ask_for (shape_of types ty) else leave_none) many
 
   pub read_area : is_indirect (Some (shape_of types ty)) ≡ true → read_code types r ≡ load_code types ty nowhere
   read_area many = ap (read_code types) is ∙ ap (λ q. if q then load_code types ty nowhere else lift_code types ty) many
@@ -99,12 +99,12 @@ module _ (types : List TypeDef) (r : Option WitType) (ty : WitType) (is : r ≡ 
   pub read_word : is_indirect (Some (shape_of types ty)) ≡ false → read_code types r ≡ lift_code types ty
   read_word one = ap (read_code types) is ∙ ap (λ q. if q then load_code types ty nowhere else lift_code types ty) one
 
-  pub give_area : is_indirect (Some (shape_of types ty)) ≡ true → give_code types r ≡ ask_for (shape_of types ty) ++ store_code types true ty nowhere
-  give_area many = ap (give_code types) is ∙ ap (λ q. if q then ask_for (shape_of types ty) ++ store_code types true ty nowhere else lower_code types true ty) many
+  pub give_area : is_indirect (Some (shape_of types ty)) ≡ true → give_code types r ≡ store_answer_code types ty
+  give_area many = ap (give_code types) is ∙ ap (λ q. if q then store_answer_code types ty else lower_code types true ty) many
 
   pub give_word : is_indirect (Some (shape_of types ty)) ≡ false → give_code types r ≡ lower_code types true ty
-  give_word one = ap (give_code types) is ∙ ap (λ q. if q then ask_for (shape_of types ty) ++ store_code types true ty nowhere else lower_code types true ty) one
+  give_word one = ap (give_code types) is ∙ ap (λ q. if q then store_answer_code types ty else lower_code types true ty) one
 
-pub point_none : (types : List TypeDef) (r : Option WitType) → is_indirect (option_map (shape_of types) r) ≡ false → point_code types r ≡ []
+pub point_none : (types : List TypeDef) (r : Option WitType) → is_indirect (option_map (shape_of types) r) ≡ false → point_code types r ≡ leave_none
 point_none types None one = refl
-point_none types (Some ty) one = ap (λ q. if q then ask_for (shape_of types ty) else []) one
+point_none types (Some ty) one = ap (λ q. if q then ask_for (shape_of types ty) else leave_none) one

@@ -26,7 +26,7 @@ use Rattle.wrapper_meaning.proofs.HoldsLocally.{flags_within}
 use Rattle.wrapper_meaning.proofs.PostReturn.{total-append}
 use Rattle.abi_bindgen.specs.declared.instruction.Instruction.TheVariants.{FlagsLift}
 use Rattle.abi_bindgen.specs.Account.{Account, Peer, addresses, releasing}
-use Rattle.abi_bindgen.specs.Code.{beyond, each, word_place}
+use Rattle.abi_bindgen.specs.Code.{beyond, word_place}
 use Rattle.abi_bindgen.specs.FlagSets.{AreFlags, LiftsFlags}
 use Rattle.abi_bindgen.specs.Instructions.{Emits}
 use Rattle.abi_bindgen.specs.Laws.{Adds, At, Facts, Sound, core_data, ofs}
@@ -34,7 +34,6 @@ use Rattle.abi_bindgen.specs.Lifts.{LiftsFlat, OneStands, took}
 use Rattle.abi_driver.specs.Loads.{Gets, LiftsFromMemory}
 use Rattle.abi_bindgen.specs.Lowers.{LowersFlat}
 use Rattle.abi_bindgen.specs.Meaning.{Meaning, item, of, word}
-use Rattle.abi_bindgen.specs.Sent.{Sent}
 use Rattle.abi_driver.specs.Stores.{LowersToMemory}
 use Rattle.abi_driver.proofs.Done.{does_done, lets_go}
 use Rattle.abi_driver.proofs.NumberWords.{AreApart, LoadedOn, StoredBack, kept_bits, loaded_adds, stored_adds, words_loaded, words_stored}
@@ -106,17 +105,10 @@ flags_kept w n ws len are =
     by_three (λ e. kept_bits e.grain ws % 2 ^ n ≡ flag_bits ws % 2 ^ n) n (λ h. let l = leb-true n 8 h in few_kept n 0 8 ws refl l (omega (arith, l, len)))
     (λ h. let l = leb-true n 16 h in few_kept n 1 16 ws refl l (omega (arith, l, len))) (ap (λ k. k % 2 ^ n) (whole_kept w ws are))
 
--- 3. Where they stand, and what is sent for them
+-- 3. Where they stand
 
 abbrev pub place_of : ArchitectureSize → ℕ → ArchitectureSize
 place_of offset n = beyond offset (word_place n)
-
--- the same for each of as many
-pub each_alike : {A B : Type 0} (f : ℕ → List Sent) (k : ℕ) (xs : List A) (ys : List B) → length xs ≡ length ys → each (λ n x. f n) k xs ≡ each (λ n y. f n) k ys
-each_alike f k [] [] e = refl
-each_alike f k [] (y ∷ ys) e = absurd (omega (arith, e))
-each_alike f k (x ∷ xs) [] e = absurd (omega (arith, e))
-each_alike f k (x ∷ xs) (y ∷ ys) e = ap (λ steps. f k ++ steps) (each_alike f (suc k) xs ys (omega (arith, e)))
 
 -- 4. Core words
 

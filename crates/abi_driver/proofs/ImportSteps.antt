@@ -2,8 +2,8 @@
 use Rattle.std.proofs.Common.{◌≡◌, ◌≤◌, Bor, ℕ, ◌+◌, ◌%◌, Bool, true, false, if◌then◌else◌, MatchBool, List, [], ◌∷◌, ◌++◌, length, Option, None, Some, Contains, refl, sym, ap, ap₂, ◌∙◌, subst, arith, append_assoc, append-nil}
 use Rattle.std.specs.Prelude.{option_to_list}
 use Rattle.std.specs.List.{AllByRecursion}
-use Rattle.std.proofs.lemmas.Bool.{and_from, and_parts}
 use Rattle.std.proofs.lemmas.List.{length-append, length-map}
+use Rattle.wit_model.specs.declared.types.WitType.{WitType}
 use Rattle.wit_model.specs.declared.function.Function.{Function}
 use Rattle.wit_model.specs.declared.types.TypeDef.{TypeDef}
 use Rattle.wit_model.specs.declared.wasm_type.WasmType.{WasmType}
@@ -38,16 +38,18 @@ use Rattle.wrapper_meaning.proofs.LayoutIsTree.{signature_is_by_shapes}
 use Rattle.wrapper_meaning.proofs.Lists.{first_or}
 use Rattle.abi_bindgen.specs.declared.bindgen.Asked.{Asked}
 use Rattle.abi_bindgen.specs.declared.instruction.Instruction.TheVariants.{CallWasm, Return}
-use Rattle.abi_bindgen.specs.Account.{Account, Call, Done, Follows, Got, Outcome, Peer, Reply, Stopped, Stuck, account_in, addresses, gives, has_type, have_types, value, words}
+use Rattle.abi_bindgen.specs.Account.{Account, Call, Done, Follows, Got, Outcome, Peer, Reply, Stopped, Stuck, account_in, addresses, gives, have_types, value, words}
 use Rattle.abi_bindgen.specs.Area.{AreFor, SameArea}
 use Rattle.abi_bindgen.specs.Calls.{call_point, calling, import_params, import_results, recorded}
 use Rattle.abi_bindgen.specs.Frees.{nowhere}
 use Rattle.abi_driver.specs.Imports.{CallsImport, Given, GivesBack, IsHonest, Lent, LoadsAnswer, PassesArguments, PassesValues, Points, PointsAtResult, ReadsAnswer, ResultStands, point_of}
-use Rattle.abi_bindgen.specs.Instructions.{Emits}
+use Rattle.abi_bindgen.specs.Instructions.{Emits, shapes_of}
 use Rattle.abi_bindgen.specs.Laws.{Adds, After, At, Facts, Grows, Quiet, Sound, core_data, item_data, ofs}
 use Rattle.abi_bindgen.specs.Lifts.{LiftsAnswer, MayTake, by_taking, took}
 use Rattle.abi_bindgen.specs.Meaning.{Meaning, of, word}
 use Rattle.abi_bindgen.specs.Touches.{reached}
+use Rattle.abi_bindgen.specs.Code.{passed_count}
+use Rattle.abi_bindgen.specs.WordCount.{word_counts}
 use Rattle.abi_driver.proofs.AreaHeaps.{IsInside, contains_last, may_take_answered, silent_there, written_there}
 use Rattle.abi_driver.proofs.AreaSteps.{Names, ResultPointed, needs_for_parameters, needs_for_result, points_grows, result_pointed}
 use Rattle.abi_driver.proofs.Done.{does_done}
@@ -154,7 +156,18 @@ pub one_pointer : {Self Operand : Type 0} (m : Meaning Self Operand) (r : Option
 one_pointer m r pointer a b c h e f =
     ap length (subst (λ q. MatchBool q ((o : _) × (t : Shape) × (r ≡ Some t) × (pointer ≡ o ∷ []) × Points m t o a b) ((pointer ≡ []) × (b ≡ a))) (sym e ∙ f) h).3
 
+pub no_pointer : {Self Operand : Type 0} (m : Meaning Self Operand) (r : Option Shape) (pointer : List Operand) (a b : Self) (c : Bool) → PointsAtResult m r pointer a b → c ≡ is_indirect r → c ≡ false → pointer ≡ []
+no_pointer m r pointer a b c h e f =
+    (subst (λ q. MatchBool q ((o : _) × (t : Shape) × (r ≡ Some t) × (pointer ≡ o ∷ []) × Points m t o a b) ((pointer ≡ []) × (b ≡ a))) (sym e ∙ f) h).0
+
 -- how many words there are
+pub passed_words : {Self Operand : Type 0} (m : Meaning Self Operand) (types : List TypeDef) (tys : List WitType) (os : List Operand) (a b : Self) → PassesArguments m (shapes_of types tys) os a b → length os ≡ passed_count types tys
+passed_words m types tys os a b passes = by (are_indirect (shapes_of types tys)) passes.fits
+  where
+    by : (q : Bool) → MatchBool q (length os ≡ 1) (length os ≡ length (param_words (shapes_of types tys))) → length os ≡ (if q then 1 else word_counts types tys)
+    by true h = h
+    by false h = h
+
 pub words_count : {Self Operand : Type 0} (m : Meaning Self Operand) (types : List TypeDef) (f : Function) (os pointer : List Operand) (a b c d : Self) → PassesArguments m (param_shapes types f) os a b → PointsAtResult m (result_shape types f) pointer c d
     → length (os ++ pointer) ≡ length (import_params types f)
 words_count m types f os pointer a b c d passes points =

@@ -2,3 +2,4 @@
 pub mod CaseOrders
 pub mod MemoryOrders
 pub mod Orders
+pub mod Steps

@@ -33,6 +33,7 @@ pub mod ScalarsInMemory
 pub mod Storing
 pub mod StoreSteps
 pub mod Freeing
+pub mod FlowStores
 pub mod FreeSteps
 pub mod LeafFrees
 pub mod RecordArguments

@@ -2,10 +2,9 @@
 -- there in their order.
 use Rattle.std.specs.List.{AllByRecursion}
 use Rattle.std.specs.Int.{w32, cast_signed}
-use Rattle.std.proofs.Common.{◌≡◌, ◌⊎◌, ℕ, zero, suc, ◌+◌, ◌*◌, ◌%◌, ◌^◌, ◌<◌, ◌≤◌, true, false, List, [], ◌∷◌, ◌++◌, length, reverse, option_map, Contains, refl, sym, ap, ap₂, ◌∙◌, subst, arith, append_assoc}
+use Rattle.std.proofs.Common.{◌≡◌, ◌⊎◌, ℕ, zero, suc, ◌+◌, ◌*◌, ◌%◌, ◌^◌, ◌<◌, ◌≤◌, true, false, List, [], ◌∷◌, ◌++◌, length, option_map, Contains, refl, sym, ap, ap₂, ◌∙◌, subst, arith, append_assoc}
 use Rattle.std.proofs.Math.Nat.{add-mul-mod_self_right, mul-le-mul_right}
 use Rattle.std.proofs.lemmas.Int.{ints}
-use Rattle.std.proofs.lemmas.List.{reverse-append}
 use mathlib.Core.Logic.{inl, inr}
 use Rattle.wit_model.specs.Size.{bytes_at}
 use Rattle.wit_model.specs.declared.size.ArchitectureSize.{ArchitectureSize}
@@ -21,15 +20,15 @@ use Rattle.wrapper_meaning.specs.Numbers.{is_signed}
 use Rattle.wrapper_meaning.specs.AsWords.{flag_bits}
 use Rattle.wrapper_meaning.specs.Words.{IsWord, bits_of, word_of_bits}
 use Rattle.abi_bindgen.specs.Account.{Account, Done, Got, Peer, has_type}
-use Rattle.abi_bindgen.specs.Code.{each}
+use Rattle.abi_bindgen.specs.Code.{store_by}
+use Rattle.abi_bindgen.specs.Flow.{behind, both, each, each_back, emit, leading}
+use Rattle.abi_bindgen.specs.Flows.{Flows}
 use Rattle.abi_bindgen.specs.Instructions.{Emits}
 use Rattle.abi_bindgen.specs.Laws.{Adds, After, At, Facts, Sound, core_data, ofs}
 use Rattle.abi_bindgen.specs.Meaning.{Meaning, of, word}
 use Rattle.abi_bindgen.specs.Memory.{access, is_ranged, loading, storing}
 use Rattle.abi_bindgen.specs.NumberTouches.{number_load, number_store}
 use Rattle.abi_bindgen.specs.Places.{IsWritten}
-use Rattle.abi_bindgen.specs.Sends.{Sends}
-use Rattle.abi_bindgen.specs.Sent.{Sent, sends}
 use Rattle.abi_bindgen.specs.Touches.{LoadsWord, StoresWord, low_byte, low_half, reached, whole}
 use Rattle.abi_driver.proofs.Tags.{read_32}
 use Rattle.abi_driver.proofs.Done.{does_done}
@@ -37,7 +36,7 @@ use Rattle.abi_driver.proofs.LeafLoads.{load_row}
 use Rattle.abi_driver.proofs.LeafStores.{at_least, store_row}
 use Rattle.abi_bindgen.proofs.Runs.{adds_both, adds_same}
 use Rattle.abi_driver.proofs.Replaced.{block_formed, replaced_formed, replaced_same}
-use Rattle.abi_bindgen.proofs.SendSteps.{sends_as, sends_both, sends_one, sends_then}
+use Rattle.abi_bindgen.proofs.FlowSteps.{flows_back, flows_more, flows_then}
 use Rattle.abi_driver.proofs.Storing.{loads_from, stored_again, stored_in, stores_in, written_both, written_in, written_none}
 
 -- 1. One word
@@ -147,12 +146,12 @@ no_bits g [] e = refl
 no_bits g (x ∷ ws) e = absurd (omega (arith, e))
 
 words_kept : (b after : Block) (from count p size n x : ℕ) → IsWritten from count b after → from + count ≤ p → HasWords b p size n x → HasWords after p size n x
-words_kept b after from count p size zero x written behind h = h
-words_kept b after from count p size (suc n) x written behind (low, high, has, later, e) = (
+words_kept b after from count p size zero x written beyond h = h
+words_kept b after from count p size (suc n) x written beyond (low, high, has, later, e) = (
   low,
   high,
-  (has.0, ap (λ o. option_map little o) (written.outside p size (inr behind)) ∙ has.1),
-  words_kept b after from count (p + size) size n high written (omega (arith, behind)) later,
+  (has.0, ap (λ o. option_map little o) (written.outside p size (inr beyond)) ∙ has.1),
+  words_kept b after from count (p + size) size n high written (omega (arith, beyond)) later,
   e,
 )
 
@@ -202,21 +201,23 @@ module _ {Self Operand : Type 0} (m : Meaning Self Operand) (sound : Sound m) (t
       (c, subst (λ i. Emits m types (number_load g (place i)) (address ∷ []) (r ∷ []) a c) here (subst (λ s. Emits m types (number_load g (place n)) (address ∷ []) (r ∷ []) s c) h one), refl)
   loaded_more j (q ∷ rs) r n a b c h e one = (h.0, h.1, loaded_more (suc j) rs r n h.0 b c h.2 (omega (arith, e)) one)
 
-  abbrev pub store_steps : ℕ → List Operand → List Sent
-  store_steps j os = each (λ n o. sends (number_store g (place n)) ∷ []) j os
+  -- for as many words
+  pub stored_flows : {A : Type 0} (j : ℕ) (xs : List A) (os : List Operand) (a b : Self) → length xs ≡ length os → StoredBack m types g place address j os a b
+      → Flows m types (each_back 1 (λ x. 1) (λ n x. store_by (behind 1) (number_store g (place n))) j xs) (address ∷ os) [] a b
+  stored_flows j [] [] a b e h = (refl, h)
+  stored_flows j [] (o ∷ os) a b e h = absurd (omega (arith, e))
+  stored_flows j (x ∷ xs) [] a b e h = absurd (omega (arith, e))
+  stored_flows j (x ∷ xs) (o ∷ os) a b e h =
+      let one = flows_then m types (both (behind 1) (leading 1)) (emit (number_store g (place j))) (address ∷ o ∷ []) (o ∷ address ∷ []) [] h.0 h.0 b (o ∷ [], address ∷ [], h.0, (refl, refl), (refl, refl), refl) h.2 in
+      flows_back m types 1 (λ x. 1) (λ n x. store_by (behind 1) (number_store g (place n))) (address ∷ []) refl x (o ∷ []) os refl j xs [] [] a h.0 b (stored_flows (suc j) xs os a h.0 (omega (arith, e)) h.1) one
 
-  abbrev pub load_steps : ℕ → List Operand → List Sent
-  load_steps j os = each (λ n o. sends (number_load g (place n)) ∷ []) j os
-
-  pub stored_sends : (j : ℕ) (os : List Operand) (a b : Self) → StoredBack m types g place address j os a b → Sends m types (reverse (store_steps j os)) a b
-  stored_sends j [] a b h = h
-  stored_sends j (o ∷ os) a b h =
-      sends_as m types _ _ a b (reverse-append (sends (number_store g (place j)) ∷ []) (store_steps (suc j) os))
-      (sends_both m types (reverse (store_steps (suc j) os)) (sends (number_store g (place j)) ∷ []) a h.0 b (stored_sends (suc j) os a h.0 h.1) (sends_one m types (number_store g (place j)) (o ∷ address ∷ []) [] h.0 b h.2))
-
-  pub loaded_sends : (j : ℕ) (rs : List Operand) (a b : Self) → LoadedOn m types g place address j rs a b → Sends m types (load_steps j rs) a b
-  loaded_sends j [] a b h = h
-  loaded_sends j (r ∷ rs) a b h = sends_then m types (number_load g (place j)) (address ∷ []) (r ∷ []) (load_steps (suc j) rs) a h.0 b h.1 (loaded_sends (suc j) rs h.0 b h.2)
+  pub loaded_flows : {A : Type 0} (j : ℕ) (xs : List A) (rs : List Operand) (a b : Self) → length xs ≡ length rs → LoadedOn m types g place address j rs a b
+      → Flows m types (each 1 (λ x. 0) (λ n x. emit (number_load g (place n))) j xs) (address ∷ []) rs a b
+  loaded_flows j [] [] a b e h = (refl, h)
+  loaded_flows j [] (r ∷ rs) a b e h = absurd (omega (arith, e))
+  loaded_flows j (x ∷ xs) [] a b e h = absurd (omega (arith, e))
+  loaded_flows j (x ∷ xs) (r ∷ rs) a b e h =
+      flows_more m types 1 (λ x. 0) (λ n x. emit (number_load g (place n))) (address ∷ []) refl x [] [] refl j xs (r ∷ []) rs a h.0 b h.1 (loaded_flows (suc j) xs rs h.0 b (omega (arith, e)) h.2)
 
   -- the places are behind an offset
   module _ (base count : ℕ) (apart : AreApart g count) (told : (n : ℕ) → bytes_at (place n) (2 ^ m.width) ≡ base + 4 * n) where

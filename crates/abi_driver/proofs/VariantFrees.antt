@@ -1,5 +1,5 @@
 -- The blocks of a value with cases are freed by the blocks of its cases.
-use Rattle.std.proofs.Common.{◌≡◌, ℕ, ◌+◌, ◌^◌, ◌<◌, ◌≤◌, true, false, pos, List, [], ◌∷◌, ◌++◌, length, drop, replicate, option_map, Option, Some, refl, sym, ap, ap₂, ◌∙◌, subst, arith}
+use Rattle.std.proofs.Common.{◌≡◌, ℕ, ◌+◌, ◌^◌, ◌<◌, ◌≤◌, true, false, pos, List, [], ◌∷◌, ◌++◌, length, drop, replicate, Option, Some, refl, sym, ap, ap₂, ◌∙◌, subst, arith}
 use Rattle.std.specs.List.{slice_get}
 use Rattle.std.proofs.lemmas.List.{length-replicate}
 use Rattle.wit_model.specs.Size.{bytes_at}
@@ -19,9 +19,7 @@ use Rattle.wrapper_meaning.specs.InRange.{IsListedCase}
 use Rattle.wrapper_meaning.specs.Kinds.{has_list, have_list}
 use Rattle.wrapper_meaning.proofs.NoLists.{memory_has_no_blocks}
 use Rattle.abi_bindgen.specs.Cases.{payloads_of}
-use Rattle.abi_bindgen.specs.Code.{at_payload, beyond, free_code, in_blocks}
-use Rattle.abi_bindgen.specs.Sends.{Sends}
-use Rattle.abi_bindgen.specs.Sent.{Sent, sends}
+use Rattle.abi_bindgen.specs.Code.{at_payload, beyond, free_code, blocks_of_cases}
 use Rattle.wit_layout.specs.Extent.{discriminant_grain, greatest}
 use Rattle.wit_layout.specs.Sizes.{count as tree_count, extents_of, payload_offset}
 use Rattle.wrapper_data.specs.declared.word.Word.TheVariants as core
@@ -42,6 +40,8 @@ use Rattle.abi_bindgen.specs.Meaning.{Meaning, of, word}
 use Rattle.abi_bindgen.specs.NumberTouches.{number_load, tag_load}
 use Rattle.abi_bindgen.specs.Parts.{count}
 use Rattle.abi_bindgen.specs.Touches.{reached}
+use Rattle.abi_bindgen.specs.Flow.{Flow, emit, leave_none, both, ◌>>>◌}
+use Rattle.abi_bindgen.specs.Flows.{Flows}
 use Rattle.abi_bindgen.proofs.BareCases.{read_number}
 use Rattle.abi_driver.proofs.ArmSteps.{arm_runs, went}
 use Rattle.abi_driver.proofs.Tags.{tag_grain_small}
@@ -54,9 +54,9 @@ use Rattle.abi_driver.proofs.MemoryCode.{cases_place, free_none_code, free_varia
 use Rattle.abi_driver.proofs.PartOffsets.{payload_offset_of, payload_sent}
 use Rattle.abi_driver.proofs.RecordPlaces.{place_told}
 use Rattle.abi_bindgen.proofs.Payloads.{count_payloads, variant_shape}
-use Rattle.abi_bindgen.proofs.SendSteps.{sends_as, sends_both, sends_one, sends_then}
 use Rattle.abi_driver.proofs.NumberWords.{number_load_adds, number_loaded}
 use Rattle.abi_bindgen.proofs.Runs.{adds_both}
+use Rattle.abi_bindgen.proofs.FlowSteps.{flows_as, flows_then, flows_both}
 
 -- where a value may have a list, there is a case
 pub some_case : (ts : Shapes) → have_list ts ≡ true → 0 < count ts
@@ -140,17 +140,17 @@ module _ {Self Operand : Type 0} (m : Meaning Self Operand) (sound : Sound m) (t
 
 module _ {Self Operand : Type 0} (m : Meaning Self Operand) (sound : Sound m) (types : List TypeDef) (down : GoesDown types) (id : TypeId) (entry : TypeDef) (at : slice_get types id.0 ≡ Some entry) (k : TypeDefKind) (has : has_cases k ≡ true) (kind_is : entry.kind ≡ k) where
   -- a type of the table with cases is freed, and as its code says: where no value has blocks, by no code
-  pub freed_none : has_list (shape_at types id.0) ≡ false → (a : Self) (address : Operand) (offset : ArchitectureSize) → record { frees : FreesInMemory m (shape_at types id.0) address offset a a; sends : Sends m types (free_code types (wit.Id id) offset) a a }
+  pub freed_none : has_list (shape_at types id.0) ≡ false → (a : Self) (address : Operand) (offset : ArchitectureSize) → record { frees : FreesInMemory m (shape_at types id.0) address offset a a; flows : Flows m types (free_code types (wit.Id id) offset) (address ∷ []) [] a a }
   freed_none bare a address offset = record {
     frees = alone_at m sound types (shape_at types id.0) (λ v b j own holds. memory_has_no_blocks m.width give (shape_at types id.0) v b j own bare holds) a address offset;
-    sends = sends_as m types [] _ a a (free_none_code types down id entry at offset k kind_is has bare) refl;
+    flows = flows_as m types leave_none (free_code types (wit.Id id) offset) (address ∷ []) [] a a (free_none_code types down id entry at offset k kind_is has bare) (refl, refl);
   }
 
   pub freed_variant : has_list (shape_at types id.0) ≡ true → (address x : Operand) (offset place : ArchitectureSize) → ((part : ArchitectureSize) × (place ≡ beyond offset part) × IsPairOf part (λ w. payload_offset w (tree_at types id.0)))
       → (payloads : List (Option WitType)) → payloads ≡ payloads_of k → (n : ℕ) → n ≡ length payloads → length payloads ≤ 2 ^ 31 → (a b c d : Self) → Emits m types (tag_load (length payloads) offset) (address ∷ []) (x ∷ []) a b
-      → FreesCases m (payloads_in (shapes types) payloads) address place b c → Sends m types (in_blocks (λ n p. at_payload place (option_map (free_code types) p)) 0 payloads) b c → Emits m types (GuestDeallocateVariant n) (x ∷ []) [] c d
-      → record { frees : FreesInMemory m (shape_at types id.0) address offset a d; sends : Sends m types (free_code types (wit.Id id) offset) a d }
-  freed_variant some address x offset place found payloads same n counted most a b c d tag frees sent arm =
+      → FreesCases m (payloads_in (shapes types) payloads) address place b c → Flows m types (blocks_of_cases 1 (λ n part. at_payload place part) (free_code types) payloads) (address ∷ []) [] b c → Emits m types (GuestDeallocateVariant n) (x ∷ []) [] c d
+      → record { frees : FreesInMemory m (shape_at types id.0) address offset a d; flows : Flows m types (free_code types (wit.Id id) offset) (address ∷ []) [] a d }
+  freed_variant some address x offset place found payloads same n counted most a b c d tag frees flow arm =
       let all = payloads_of k in
       let ts = payloads_in (shapes types) all in
       let shape = variant_shape types down id.0 k (record { entry = entry; stands = at; kind = kind_is }) has in
@@ -162,14 +162,15 @@ module _ {Self Operand : Type 0} (m : Meaning Self Operand) (sound : Sound m) (t
       let frees1 = subst (λ (ps : List (Option WitType)). FreesCases m (payloads_in (shapes types) ps) address place b c) same frees in
       let few : count ts ≤ 2 ^ 31 = omega (arith, most, many, length_same) in
       let behind = place_told m.width place offset found.0 (λ w. payload_offset w (tree_at types id.0)) sound.wide found.1 found.2 ∙ ap (λ n. bytes_at offset (2 ^ m.width) + n) (payload_offset_of m.width types id ts shape) in
-      let code : List (Option WitType) → ArchitectureSize → List Sent = λ ps p. in_blocks (λ n q. at_payload p (option_map (free_code types) q)) 0 ps in
+      let code : List (Option WitType) → ArchitectureSize → Flow = λ ps p. blocks_of_cases 1 (λ n part. at_payload p part) (free_code types) ps in
       let blocks = code all (cases_place types down id entry at offset) in
-      let sent1 = sends_as m types (code payloads place) blocks b c (ap₂ code (sym same) (sym (payload_sent place offset found.0 (tree_at types id.0) found.1 found.2))) sent in
+      let flow1 = flows_as m types (code payloads place) blocks (address ∷ []) [] b c (ap₂ code (sym same) (sym (payload_sent place offset found.0 (tree_at types id.0) found.1 found.2))) flow in
       let tag2 = subst (λ j. Emits m types (tag_load j offset) (address ∷ []) (x ∷ []) a b) length_same tag in
       let arm1 = subst (λ j. Emits m types (GuestDeallocateVariant j) (x ∷ []) [] c d) number arm in
-      let last = sends (GuestDeallocateVariant (length all)) ∷ [] in
-      let steps = sends_then m types (tag_load (length all) offset) _ _ (blocks ++ last) a b d tag2 (sends_both m types blocks last b c d sent1 (sends_one m types (GuestDeallocateVariant (length all)) (x ∷ []) [] c d arm1)) in
+      let load : Flow = emit (tag_load (length all) offset) in
+      let last : Flow = emit (GuestDeallocateVariant (length all)) in
+      let whole = flows_then m types (both load blocks) last (address ∷ []) (x ∷ []) [] a c d (flows_both m types load blocks (address ∷ []) (x ∷ []) [] a b c tag2 flow1) arm1 in
       record {
         frees = subst (λ s. FreesInMemory m s address offset a d) (sym shape) (variant_frees m sound types n ts b c d address x place (many ∙ sym number) frees1 arm a offset few behind tag1);
-        sends = sends_as m types _ _ a d (free_variant_code types down id entry at offset k kind_is has some) steps;
+        flows = flows_as m types (both load blocks >>> last) (free_code types (wit.Id id) offset) (address ∷ []) [] a d (free_variant_code types down id entry at offset k kind_is has some) whole;
       }

@@ -1,5 +1,5 @@
 -- A value with cases is loaded by the blocks of its cases.
-use Rattle.std.proofs.Common.{◌≡◌, ℕ, ◌+◌, ◌^◌, ◌<◌, ◌≤◌, Bool, true, pos, List, [], ◌∷◌, ◌++◌, length, option_map, option_to_list, Option, None, Some, refl, sym, ap, ap₂, ◌∙◌, subst, arith}
+use Rattle.std.proofs.Common.{◌≡◌, ℕ, ◌+◌, ◌^◌, ◌<◌, ◌≤◌, Bool, true, pos, List, [], ◌∷◌, ◌++◌, length, option_to_list, Option, None, Some, refl, sym, ap, ap₂, ◌∙◌, subst, arith}
 use Rattle.std.specs.List.{flat_map, slice_get}
 use Rattle.std.proofs.lemmas.List.{length-map}
 use mathlib.Core.Logic.{inl, inr}
@@ -34,9 +34,7 @@ use Rattle.abi_bindgen.specs.Arms.{arms, gives_payload, matching}
 use Rattle.abi_bindgen.specs.Blocks.{owned_datum}
 use Rattle.abi_driver.specs.FinishedBlocks.{HasPayloadRoom}
 use Rattle.abi_bindgen.specs.Cases.{IsPayload, PayloadStands, payloads_of, result_counts}
-use Rattle.abi_bindgen.specs.Code.{at_payload, beyond, in_blocks, load_code}
-use Rattle.abi_bindgen.specs.Sends.{Sends}
-use Rattle.abi_bindgen.specs.Sent.{Sent, sends}
+use Rattle.abi_bindgen.specs.Code.{at_payload, beyond, load_code, blocks_of_cases}
 use Rattle.abi_bindgen.specs.Instructions.{Emits, case_lifting, has_cases}
 use Rattle.abi_bindgen.specs.Laws.{At, Facts, Sound, ofs}
 use Rattle.abi_bindgen.specs.Lifts.{MayTake, OneStands, took}
@@ -46,6 +44,8 @@ use Rattle.abi_bindgen.specs.Meaning.{Meaning, item, of, word}
 use Rattle.abi_bindgen.specs.NumberTouches.{number_load, tag_load}
 use Rattle.abi_bindgen.specs.Parts.{count}
 use Rattle.abi_bindgen.specs.Touches.{reached}
+use Rattle.abi_bindgen.specs.Flow.{Flow, emit, both, ◌>>>◌}
+use Rattle.abi_bindgen.specs.Flows.{Flows}
 use Rattle.abi_bindgen.proofs.BareCases.{read_number}
 use Rattle.abi_driver.proofs.ArmSteps.{arm_runs, number_settled, went}
 use Rattle.abi_driver.proofs.Tags.{tag_grain_small}
@@ -58,9 +58,9 @@ use Rattle.abi_driver.proofs.MemoryCode.{cases_place, load_variant_code}
 use Rattle.abi_driver.proofs.PartOffsets.{payload_offset_of, payload_sent}
 use Rattle.abi_driver.proofs.RecordPlaces.{place_told}
 use Rattle.abi_bindgen.proofs.Payloads.{count_payloads, variant_shape}
-use Rattle.abi_bindgen.proofs.SendSteps.{sends_as, sends_both, sends_one, sends_then}
 use Rattle.abi_driver.proofs.NumberWords.{number_load_adds, number_loaded}
 use Rattle.abi_bindgen.proofs.Runs.{adds_both}
+use Rattle.abi_bindgen.proofs.FlowSteps.{flows_as, flows_then, flows_both}
 
 module _ {Self Operand : Type 0} (m : Meaning Self Operand) (sound : Sound m) where
   -- 1. What an arm gives
@@ -173,9 +173,9 @@ module _ {Self Operand : Type 0} (m : Meaning Self Operand) (sound : Sound m) (t
   -- a type of the table with cases is loaded, and as its code says
   pub loaded_variant : (address x r : Operand) (offset place : ArchitectureSize) → ((part : ArchitectureSize) × (place ≡ beyond offset part) × IsPairOf part (λ w. payload_offset w (tree_at types id.0)))
       → (payloads : List (Option WitType)) → payloads ≡ payloads_of k → length payloads ≤ 2 ^ 31 → (a b c d : Self) → Emits m types (tag_load (length payloads) offset) (address ∷ []) (x ∷ []) a b
-      → LoadsCases m (result_counts payloads) (payloads_in (shapes types) payloads) address place b c → Sends m types (in_blocks (λ n p. at_payload place (option_map (load_code types) p)) 0 payloads) b c → Emits m types (case_lifting k id) (x ∷ []) (r ∷ []) c d
-      → record { loads : LiftsFromMemory m (shape_at types id.0) address offset r a d; sends : Sends m types (load_code types (wit.Id id) offset) a d }
-  loaded_variant address x r offset place found payloads same most a b c d tag loads sent e =
+      → LoadsCases m (result_counts payloads) (payloads_in (shapes types) payloads) address place b c → Flows m types (blocks_of_cases 1 (λ n part. at_payload place part) (load_code types) payloads) (address ∷ []) [] b c → Emits m types (case_lifting k id) (x ∷ []) (r ∷ []) c d
+      → record { loads : LiftsFromMemory m (shape_at types id.0) address offset r a d; flows : Flows m types (load_code types (wit.Id id) offset) (address ∷ []) (r ∷ []) a d }
+  loaded_variant address x r offset place found payloads same most a b c d tag loads flow e =
       let all = payloads_of k in
       let ts = payloads_in (shapes types) all in
       let shape = variant_shape types down id.0 k (record { entry = entry; stands = at; kind = kind_is }) has in
@@ -187,12 +187,13 @@ module _ {Self Operand : Type 0} (m : Meaning Self Operand) (sound : Sound m) (t
       let results : length (result_counts all) ≡ count ts = length-map all (λ p. length (option_to_list p)) ∙ sym many in
       let lifts = lifts_by m types down id k x r c d (record { entry = entry; stands = at; kind = kind_is }) has e in
       let behind = place_told m.width place offset found.0 (λ w. payload_offset w (tree_at types id.0)) sound.wide found.1 found.2 ∙ ap (λ n. bytes_at offset (2 ^ m.width) + n) (payload_offset_of m.width types id ts shape) in
-      let code : List (Option WitType) → ArchitectureSize → List Sent = λ ps p. in_blocks (λ n q. at_payload p (option_map (load_code types) q)) 0 ps in
+      let code : List (Option WitType) → ArchitectureSize → Flow = λ ps p. blocks_of_cases 1 (λ n part. at_payload p part) (load_code types) ps in
       let blocks = code all (cases_place types down id entry at offset) in
-      let sent1 = sends_as m types (code payloads place) blocks b c (ap₂ code (sym same) (sym (payload_sent place offset found.0 (tree_at types id.0) found.1 found.2))) sent in
+      let flow1 = flows_as m types (code payloads place) blocks (address ∷ []) [] b c (ap₂ code (sym same) (sym (payload_sent place offset found.0 (tree_at types id.0) found.1 found.2))) flow in
       let tag2 = subst (λ (ps : List (Option WitType)). Emits m types (tag_load (length ps) offset) (address ∷ []) (x ∷ []) a b) same tag in
-      let steps = sends_then m types (tag_load (length all) offset) _ _ (blocks ++ sends (case_lifting k id) ∷ []) a b d tag2 (sends_both m types blocks (sends (case_lifting k id) ∷ []) b c d sent1 (sends_one m types (case_lifting k id) (x ∷ []) (r ∷ []) c d e)) in
+      let load : Flow = emit (tag_load (length all) offset) in
+      let whole = flows_then m types (both load blocks) (emit (case_lifting k id)) (address ∷ []) (x ∷ []) (r ∷ []) a c d (flows_both m types load blocks (address ∷ []) (x ∷ []) [] a b c tag2 flow1) e in
       record {
         loads = subst (λ s. LiftsFromMemory m s address offset r a d) (sym shape) (variant_loads m sound (case_serves k) (result_counts all) ts b c d address x r place results loads1 lifts types a offset few behind tag1);
-        sends = sends_as m types _ _ a d (load_variant_code types down id entry at offset k kind_is has) steps;
+        flows = flows_as m types (both load blocks >>> emit (case_lifting k id)) (load_code types (wit.Id id) offset) (address ∷ []) (r ∷ []) a d (load_variant_code types down id entry at offset k kind_is has) whole;
       }

@@ -1,5 +1,5 @@
 -- A value with cases is stored by the blocks of its cases.
-use Rattle.std.proofs.Common.{◌≡◌, ◌+◌, ◌^◌, ◌≤◌, Bool, List, [], ◌∷◌, ◌++◌, if◌then◌else◌, true, length, replicate, option_map, Option, Some, refl, sym, ap, ap₂, ◌∙◌, subst, arith}
+use Rattle.std.proofs.Common.{◌≡◌, ◌+◌, ◌^◌, ◌≤◌, Bool, List, [], ◌∷◌, ◌++◌, if◌then◌else◌, true, length, replicate, Option, Some, refl, sym, ap, ap₂, ◌∙◌, subst, arith}
 use Rattle.std.specs.List.{flat_map, slice_get}
 use Rattle.std.proofs.lemmas.List.{length-replicate}
 use Rattle.wit_model.specs.Size.{bytes_at}
@@ -27,10 +27,8 @@ use Rattle.abi_bindgen.specs.Arms.{Armed, arm, arms, gives_any}
 use Rattle.abi_bindgen.specs.Blocks.{owned_datum}
 use Rattle.abi_driver.specs.FinishedBlocks.{HasCaseRoom}
 use Rattle.abi_bindgen.specs.Cases.{payloads_of, with_case}
-use Rattle.abi_bindgen.specs.Code.{beyond, in_blocks, store_case, store_code}
+use Rattle.abi_bindgen.specs.Code.{beyond, store_case, store_code, blocks_of_cases}
 use Rattle.abi_bindgen.specs.Instructions.{Emits, case_lowering, has_cases}
-use Rattle.abi_bindgen.specs.Sends.{Sends}
-use Rattle.abi_bindgen.specs.Sent.{Sent, sends}
 use Rattle.abi_bindgen.specs.Laws.{At, Facts, Sound, ofs}
 use Rattle.abi_bindgen.specs.Leaves.{way}
 use Rattle.abi_bindgen.specs.Meaning.{Ended, Meaning, item, of, word}
@@ -39,6 +37,8 @@ use Rattle.abi_driver.specs.StoredCases.{StoresCases}
 use Rattle.abi_driver.specs.Stores.{LowersToMemory, Releases, by_storing}
 use Rattle.abi_bindgen.specs.Touches.{reached}
 use Rattle.abi_bindgen.specs.Turns.{Arrives, Went}
+use Rattle.abi_bindgen.specs.Flow.{Flow, emit, behind, both, ◌>>>◌}
+use Rattle.abi_bindgen.specs.Flows.{Flows}
 use Rattle.abi_driver.proofs.CaseInstructions.{LowersBy, lowers_by, lowers_count}
 use Rattle.abi_driver.proofs.CaseRooms.{case_room, count_layouts}
 use Rattle.abi_driver.proofs.CaseStores.{owns_blocks}
@@ -48,7 +48,7 @@ use Rattle.abi_driver.proofs.MemoryCode.{cases_place, store_variant_code}
 use Rattle.abi_driver.proofs.PartOffsets.{payload_offset_of, payload_sent}
 use Rattle.abi_driver.proofs.RecordPlaces.{place_told}
 use Rattle.abi_bindgen.proofs.Payloads.{count_payloads, variant_shape}
-use Rattle.abi_bindgen.proofs.SendSteps.{sends_as, sends_both, sends_one}
+use Rattle.abi_bindgen.proofs.FlowSteps.{flows_as, flows_then, flows_both}
 use Rattle.abi_driver.proofs.Storing.{written_in}
 
 no_items : {A : Type 0} (xs : List A) → length xs ≡ 0 → xs ≡ []
@@ -59,7 +59,7 @@ module _ {Self Operand : Type 0} (m : Meaning Self Operand) (sound : Sound m) wh
   -- the blocks of all cases, and then the instruction that runs the one of the value's case
   pub variant_stores : (realloc : Bool) (ts : Shapes) (a b c : Self) (value address : Operand) (offset place : ArchitectureSize) → bytes_at place (2 ^ m.width) ≡ bytes_at offset (2 ^ m.width) + payload_offset m.width (layout (cases ts))
       → StoresCases m realloc (discriminant_grain (tree_count (layouts ts))) 0 ts address offset place a b → LowersBy m ts value [] b c → LowersToMemory m realloc (cases ts) value address offset a c
-  variant_stores realloc ts a b c value address offset place behind stores lowers = record {
+  variant_stores realloc ts a b c value address offset place placed stores lowers = record {
     adds = resumes_then m a b c stores.adds.resumes lowers.grows lowers.quiet lowers.uncalled lowers.asked (lowers.blocks ∙ arms_gone m (replicate (count ts) 0) stores.bodies a b (count ts) stores.adds (length-replicate (count ts) 0));
     row = λ heap v x own listed stands w f others s0 s q k blk left at room goes.
         let dir = way realloc heap in
@@ -80,7 +80,7 @@ module _ {Self Operand : Type 0} (m : Meaning Self Operand) (sound : Sound m) wh
         let moved = ran.1 in
         let known : m.denotes w a pointer s = front_only m sound w a pointer others s (sound.fewer w a (of value (item x) ∷ []) (pointer ++ others) s at.holds) in
         let held_all : m.denotes w b (pointer ++ others) begin = moved.denotes (pointer ++ others) at1.holds in
-        let reach : reached m q place ≡ reached m q offset + d = ap (λ j. q + j) behind ∙ omega arith in
+        let reach : reached m q place ≡ reached m q offset + d = ap (λ j. q + j) placed ∙ omega arith in
         let room1 = case_room m.width ts (reached m q offset) (reached m q place) blk k (m.account s).heap room reach in
         let room2 = subst (λ (z : Account m.Item). HasCaseRoom (discriminant_grain (tree_count (layouts ts))) e (reached m q offset) (reached m q place) blk k d z.heap) (sym moved.account) room1 in
         let goes2 = subst (λ (z : Account m.Item). Releases (addresses own) z.taken left) (sym moved.account) goes in
@@ -117,20 +117,24 @@ module _ {Self Operand : Type 0} (m : Meaning Self Operand) (sound : Sound m) (t
   -- a type of the table with cases is stored, and as its code says
   pub stored_variant : (realloc : Bool) (value address : Operand) (offset place : ArchitectureSize) → ((part : ArchitectureSize) × (place ≡ beyond offset part) × IsPairOf part (λ w. payload_offset w (tree_at types id.0)))
       → (payloads : List (Option WitType)) → payloads ≡ payloads_of k → (rs : List Operand) (a b c : Self) → StoresCases m realloc (discriminant_grain (length payloads)) 0 (payloads_in (shapes types) payloads) address offset place a b
-      → Sends m types (in_blocks (λ n p. store_case (length payloads) offset place n (option_map (store_code types realloc) p)) 0 payloads) a b → Emits m types (case_lowering k id 0) (value ∷ []) rs b c
-      → record { stores : LowersToMemory m realloc (shape_at types id.0) value address offset a c; sends : Sends m types (store_code types realloc (wit.Id id) offset) a c }
-  stored_variant realloc value address offset place found payloads same rs a b c stores sent e =
+      → Flows m types (blocks_of_cases 1 (store_case (length payloads) offset place) (store_code types realloc) payloads) (address ∷ value ∷ []) [] a b → Emits m types (case_lowering k id 0) (value ∷ []) rs b c
+      → record { stores : LowersToMemory m realloc (shape_at types id.0) value address offset a c; flows : Flows m types (store_code types realloc (wit.Id id) offset) (address ∷ value ∷ []) [] a c }
+  stored_variant realloc value address offset place found payloads are rs a b c stores flow e =
       let ts = payloads_in (shapes types) (payloads_of k) in
       let shape = variant_shape types down id.0 k (record { entry = entry; stands = at; kind = kind_is }) has in
       let grain : discriminant_grain (length (payloads_of k)) ≡ discriminant_grain (tree_count (layouts ts)) = ap discriminant_grain (sym (count_layouts ts ∙ count_payloads (shapes types) (payloads_of k))) in
-      let stores1 = subst (λ (ps : List (Option WitType)). StoresCases m realloc (discriminant_grain (length ps)) 0 (payloads_in (shapes types) ps) address offset place a b) same stores in
+      let stores1 = subst (λ (ps : List (Option WitType)). StoresCases m realloc (discriminant_grain (length ps)) 0 (payloads_in (shapes types) ps) address offset place a b) are stores in
       let stores2 = subst (λ g. StoresCases m realloc g 0 ts address offset place a b) grain stores1 in
       let none : rs ≡ [] = no_items rs (lowers_count m types down id k 0 value rs b c has e) in
       let lowers = subst (λ os. LowersBy m ts value os b c) none (lowers_by m types down id k 0 value rs b c (record { entry = entry; stands = at; kind = kind_is }) has e) in
-      let behind = place_told m.width place offset found.0 (λ w. payload_offset w (tree_at types id.0)) sound.wide found.1 found.2 ∙ ap (λ n. bytes_at offset (2 ^ m.width) + n) (payload_offset_of m.width types id ts shape) in
-      let code : List (Option WitType) → ArchitectureSize → List Sent = λ ps p. in_blocks (λ n q. store_case (length ps) offset p n (option_map (store_code types realloc) q)) 0 ps in
-      let sent1 = sends_as m types (code payloads place) (code (payloads_of k) (cases_place types down id entry at offset)) a b (ap₂ code (sym same) (sym (payload_sent place offset found.0 (tree_at types id.0) found.1 found.2))) sent in
+      let placed = place_told m.width place offset found.0 (λ w. payload_offset w (tree_at types id.0)) sound.wide found.1 found.2 ∙ ap (λ n. bytes_at offset (2 ^ m.width) + n) (payload_offset_of m.width types id ts shape) in
+      let code : List (Option WitType) → ArchitectureSize → Flow = λ ps p. blocks_of_cases 1 (store_case (length ps) offset p) (store_code types realloc) ps in
+      let blocks = code (payloads_of k) (cases_place types down id entry at offset) in
+      let reads = address ∷ value ∷ [] in
+      let flow1 = flows_as m types (code payloads place) blocks reads [] a b (ap₂ code (sym are) (sym (payload_sent place offset found.0 (tree_at types id.0) found.1 found.2))) flow in
+      let run = subst (λ os. Emits m types (case_lowering k id 0) (value ∷ []) os b c) none e in
+      let whole = flows_then m types (both blocks (behind 1)) (emit (case_lowering k id 0)) reads (value ∷ []) [] a b c (flows_both m types blocks (behind 1) reads [] (value ∷ []) a b b flow1 (refl, refl)) run in
       record {
-        stores = subst (λ s. LowersToMemory m realloc s value address offset a c) (sym shape) (variant_stores m sound realloc ts a b c value address offset place behind stores2 lowers);
-        sends = sends_as m types _ _ a c (store_variant_code types down id entry at offset realloc k kind_is has) (sends_both m types _ (sends (case_lowering k id 0) ∷ []) a b c sent1 (sends_one m types (case_lowering k id 0) (value ∷ []) rs b c e));
+        stores = subst (λ s. LowersToMemory m realloc s value address offset a c) (sym shape) (variant_stores m sound realloc ts a b c value address offset place placed stores2 lowers);
+        flows = flows_as m types (both blocks (behind 1) >>> emit (case_lowering k id 0)) (store_code types realloc (wit.Id id) offset) reads [] a c (store_variant_code types down id entry at offset realloc k kind_is has) whole;
       }

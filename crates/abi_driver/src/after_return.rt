@@ -1,13 +1,13 @@
 //! What an exported function gave is freed, once its caller has read it.
 
-ghost use Rattle.std.specs.Prelude.{◌<◌, IsTrue, length, IfSome, OnOk};
+ghost use Rattle.std.specs.Prelude.{◌<◌, [], IsTrue, length, IfSome, OnOk};
 ghost use Rattle.std.specs.Option.{option_map};
 ghost use Rattle.wit_model.specs.TypeOrder.{GoesDown, payload_below};
 ghost use Rattle.wrapper_meaning.specs.Shape.{result_shape, shape_of};
 ghost use Rattle.abi_bindgen.specs.Code.{free_result_code, post_return_code};
 ghost use Rattle.abi_bindgen.specs.Frees.{FreesResult, PostReturns};
 ghost use Rattle.abi_bindgen.specs.Laws.{Adds};
-ghost use Rattle.abi_bindgen.specs.Sends.{Sends};
+ghost use Rattle.abi_bindgen.specs.Flows.{Flows};
 ghost use Rattle.abi_bindgen.specs.Served.{ServesResult};
 
 use crate::dealloc::memory::free_type;
@@ -33,7 +33,7 @@ pub fn post_return<B: Bindgen>(
     requires serves { ServesResult (result_shape resolve.now.types func.now) }
     requires argument { IfSome (B.meaning.arguments bindgen.old) (λ k. 0 < k) }
     ensures frees { OnOk result (PostReturns B.meaning (result_shape resolve.now.types func.now) bindgen.old bindgen.new) }
-    ensures sends { OnOk result (Sends B.meaning resolve.now.types (post_return_code resolve.now.types func.now.result) bindgen.old bindgen.new) }
+    ensures flows { OnOk result (Flows B.meaning resolve.now.types (post_return_code resolve.now.types func.now.result) [] [] bindgen.old bindgen.new) }
 {
     free_result(alloc, resolve, bindgen, func.result)?;
     send(
@@ -61,7 +61,7 @@ fn free_result<B: Bindgen>(
     requires serves { ServesResult (option_map (shape_of resolve.now.types) ty) }
     ensures adds { OnOk result (Adds B.meaning bindgen.old bindgen.new) }
     ensures frees { OnOk result (FreesResult B.meaning (option_map (shape_of resolve.now.types) ty) bindgen.old bindgen.new) }
-    ensures sends { OnOk result (Sends B.meaning resolve.now.types (free_result_code resolve.now.types ty) bindgen.old bindgen.new) }
+    ensures flows { OnOk result (Flows B.meaning resolve.now.types (free_result_code resolve.now.types ty) [] [] bindgen.old bindgen.new) }
 {
     let Some(ty) = ty else {
         return Ok(());

@@ -5,12 +5,12 @@ mod export;
 mod import;
 mod record;
 
-ghost use Rattle.std.specs.Prelude.{◌≡◌, true, map, OnOk};
+ghost use Rattle.std.specs.Prelude.{◌≡◌, [], true, map, OnOk};
 ghost use Rattle.wit_model.specs.IndexRange.{function_in_range};
 ghost use Rattle.wit_model.specs.WellFormed.{IsWellFormed};
 ghost use Rattle.abi_bindgen.specs.Code.{call_code};
 ghost use Rattle.abi_bindgen.specs.Laws.{IsFresh};
-ghost use Rattle.abi_bindgen.specs.Sends.{Sends};
+ghost use Rattle.abi_bindgen.specs.Flows.{Flows};
 ghost use Rattle.abi_bindgen.specs.Served.{ServesFunction};
 ghost use Rattle.abi_bindgen.specs.Written.{WritesFunction};
 ghost use Rattle.abi_driver.specs.Low.{IsSmallRecord};
@@ -64,7 +64,7 @@ pub fn call<B: Bindgen>(
     requires fresh { IsFresh B.meaning bindgen.old }
     requires arguments { HasArguments B.meaning resolve.now.types variant func.now bindgen.old }
     ensures calls { OnOk result (CallsFunction B.meaning resolve.now.types variant func.now bindgen.old bindgen.new) }
-    ensures sends { OnOk result (Sends B.meaning resolve.now.types (call_code resolve.now.types variant func.entry) bindgen.old bindgen.new) }
+    ensures flows { OnOk result (Flows B.meaning resolve.now.types (call_code resolve.now.types variant func.entry) [] [] bindgen.old bindgen.new) }
 {
     match (variant, dir) {
         (AbiVariant::GuestImport, LiftLower::LowerArgsLiftResults) => {

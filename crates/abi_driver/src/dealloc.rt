@@ -5,14 +5,14 @@ pub(crate) mod memory;
 pub(crate) mod places;
 mod variants;
 
-ghost use Rattle.std.specs.Prelude.{◌≡◌, ◌≤◌, true, false, length, OnOk};
+ghost use Rattle.std.specs.Prelude.{◌≡◌, ◌≤◌, [], true, false, length, OnOk};
 ghost use Rattle.std.specs.List.{list_all};
 ghost use Rattle.wit_model.specs.TypeOrder.{GoesDown, type_below};
 ghost use Rattle.wit_model.specs.WellFormed.{IsWellFormed};
 ghost use Rattle.abi_bindgen.specs.Code.{free_types_code};
 ghost use Rattle.abi_bindgen.specs.Frees.{FreesTypes};
 ghost use Rattle.abi_bindgen.specs.Instructions.{shapes_of};
-ghost use Rattle.abi_bindgen.specs.Sends.{Sends};
+ghost use Rattle.abi_bindgen.specs.Flows.{Flows};
 ghost use Rattle.abi_bindgen.specs.Served.{AreFreedByWords, ServesAll};
 ghost use Rattle.abi_bindgen.specs.WordCount.{word_counts};
 ghost use Rattle.abi_driver.specs.Low.{IsSmallRecord};
@@ -46,7 +46,7 @@ pub fn deallocate_lists_in_types<B: Bindgen>(
     requires words { indirect ≡ false → AreFreedByWords (shapes_of resolve.now.types types.now) × (length operands.now ≡ word_counts resolve.now.types types.now) }
     requires few { indirect ≡ false → length operands.now ≤ 16 }
     ensures frees { OnOk result (FreesTypes B.meaning indirect (shapes_of resolve.now.types types.now) operands.now bindgen.old bindgen.new) }
-    ensures sends { OnOk result (Sends B.meaning resolve.now.types (free_types_code resolve.now.types indirect types.now) bindgen.old bindgen.new) }
+    ensures flows { OnOk result (Flows B.meaning resolve.now.types (free_types_code resolve.now.types indirect types.now) operands.now [] bindgen.old bindgen.new) }
 {
     let operands = operands.as_slice();
     if indirect {
@@ -70,7 +70,7 @@ fn free_at<B: Bindgen>(
     requires small { IsSmallRecord resolve.now.types types.now }
     requires one { length operands.now ≡ 1 }
     ensures frees { OnOk result (FreesTypes B.meaning true (shapes_of resolve.now.types types.now) operands.now bindgen.old bindgen.new) }
-    ensures sends { OnOk result (Sends B.meaning resolve.now.types (free_types_code resolve.now.types true types.now) bindgen.old bindgen.new) }
+    ensures flows { OnOk result (Flows B.meaning resolve.now.types (free_types_code resolve.now.types true types.now) operands.now [] bindgen.old bindgen.new) }
 {
     free_record(alloc, resolve, types, &operands[0], bindgen)?;
     Ok(())

@@ -5,7 +5,7 @@ pub(crate) mod flags;
 pub(crate) mod leaf;
 pub(crate) mod variants;
 
-ghost use Rattle.std.specs.Prelude.{◌≡◌, ◌<◌, ◌≤◌, ◌+◌, ◌∷◌, ◌++◌, [], ℕ, IsTrue, List, Some, true, drop, length, IfOk, OnOk};
+ghost use Rattle.std.specs.Prelude.{◌≡◌, ◌<◌, ◌≤◌, ◌+◌, ◌∷◌, ◌++◌, [], ℕ, IsTrue, List, Some, true, drop, length, take, IfOk, OnOk};
 ghost use Rattle.std.specs.List.{AllByRecursion, list_all};
 ghost use Rattle.std.specs.Option.{option_map};
 ghost use Rattle.wit_model.specs.TypeOrder.{GoesDown, payload_below, type_below};
@@ -15,11 +15,12 @@ ghost use Rattle.wrapper_meaning.specs.Shape.{payload_in, payloads_in, shape_at,
 ghost use Rattle.wrapper_meaning.specs.Shape.Shapes.{none, more};
 ghost use Rattle.abi_bindgen.specs.CaseBlocks.{LiftsCases};
 ghost use Rattle.abi_bindgen.specs.Cases.{result_counts};
-ghost use Rattle.abi_bindgen.specs.Code.{each, lift_case, lift_code, payload_words, shared_slots};
+ghost use Rattle.abi_bindgen.specs.Code.{blocks_of_cases, lift_case, lift_code, payload_words, shared_slots};
 ghost use Rattle.abi_bindgen.specs.HasList.{IsKindOf};
 ghost use Rattle.abi_bindgen.specs.Instructions.{has_cases, shapes_of};
 ghost use Rattle.abi_bindgen.specs.Lifts.{LiftsAll, LiftsFlat};
-ghost use Rattle.abi_bindgen.specs.Sends.{Sends};
+ghost use Rattle.abi_bindgen.specs.Flow.{each, in_block};
+ghost use Rattle.abi_bindgen.specs.Flows.{Flows};
 ghost use Rattle.abi_bindgen.specs.Served.{Serves, ServesAll};
 ghost use Rattle.abi_bindgen.specs.SlotCasts.{FitIn};
 ghost use Rattle.abi_bindgen.specs.WordCount.{word_count, word_counts};
@@ -71,7 +72,7 @@ pub fn lift_flat<B: Bindgen>(
     requires few { length words.now ≤ 16 }
     requires exact { length words.now ≡ word_count resolve.now.types ty.now }
     ensures lifts { IfOk result (λ o. LiftsFlat B.meaning (shape_of resolve.now.types ty.now) words.now o bindgen.old bindgen.new) }
-    ensures sends { OnOk result (Sends B.meaning resolve.now.types (lift_code resolve.now.types ty.now) bindgen.old bindgen.new) }
+    ensures flows { IfOk result (λ o. Flows B.meaning resolve.now.types (lift_code resolve.now.types ty.now) words.now (o ∷ []) bindgen.old bindgen.new) }
 {
     let lifted = lift_type(alloc, resolve, bindgen, words.as_slice(), 0, *ty)?;
     Ok(lifted.operand)
@@ -98,7 +99,7 @@ fn lift_type<B: Bindgen>(
     ensures next { IfOk result (λ r. r.next ≡ at + word_count resolve.now.types ty) }
     ensures lifts { IfOk result (λ r. (used : List B.Operand) × (drop at words.now ≡ used ++ drop r.next words.now)
         × LiftsFlat B.meaning (shape_of resolve.now.types ty) used r.operand bindgen.old bindgen.new) }
-    ensures sends { OnOk result (Sends B.meaning resolve.now.types (lift_code resolve.now.types ty) bindgen.old bindgen.new) }
+    ensures flows { IfOk result (λ r. Flows B.meaning resolve.now.types (lift_code resolve.now.types ty) (take (word_count resolve.now.types ty) (drop at words.now)) (r.operand ∷ []) bindgen.old bindgen.new) }
 {
     if let Some(inst) = scalar_lifting(ty) {
         return lift_scalar(alloc, resolve, bindgen, words, at, ty, inst);
@@ -130,7 +131,7 @@ fn lift_id<B: Bindgen>(
     ensures next { IfOk result (λ r. r.next ≡ at + word_count resolve.now.types (Id id)) }
     ensures lifts { IfOk result (λ r. (used : List B.Operand) × (drop at words.now ≡ used ++ drop r.next words.now)
         × LiftsFlat B.meaning (shape_at resolve.now.types id.0) used r.operand bindgen.old bindgen.new) }
-    ensures sends { OnOk result (Sends B.meaning resolve.now.types (lift_code resolve.now.types (Id id)) bindgen.old bindgen.new) }
+    ensures flows { IfOk result (λ r. Flows B.meaning resolve.now.types (lift_code resolve.now.types (Id id)) (take (word_count resolve.now.types (Id id)) (drop at words.now)) (r.operand ∷ []) bindgen.old bindgen.new) }
 {
     let types = resolve.types.as_slice();
     let place = id.0 as usize;
@@ -186,7 +187,7 @@ fn lift_variant<B: Bindgen>(
     ensures next { IfOk result (λ r. r.next ≡ at + word_count resolve.now.types (Id id)) }
     ensures lifts { IfOk result (λ r. (used : List B.Operand) × (drop at words.now ≡ used ++ drop r.next words.now)
         × LiftsFlat B.meaning (shape_at resolve.now.types id.0) used r.operand bindgen.old bindgen.new) }
-    ensures sends { OnOk result (Sends B.meaning resolve.now.types (lift_code resolve.now.types (Id id)) bindgen.old bindgen.new) }
+    ensures flows { IfOk result (λ r. Flows B.meaning resolve.now.types (lift_code resolve.now.types (Id id)) (take (word_count resolve.now.types (Id id)) (drop at words.now)) (r.operand ∷ []) bindgen.old bindgen.new) }
 {
     let flat = flat_types(resolve, &WitType::Id(id));
     let count = flat.count as usize;
@@ -223,8 +224,8 @@ fn lift_cases<B: Bindgen>(
     requires few { length slots.now ≤ 16 }
     requires enough { length words.now ≡ length slots.now }
     ensures lifts { OnOk result (LiftsCases B.meaning (payloads_in (shapes resolve.now.types) payloads.now) (result_counts payloads.now) slots.now words.now bindgen.old bindgen.new) }
-    ensures sends { OnOk result (Sends B.meaning resolve.now.types
-        (each (λ n payload. lift_case resolve.now.types (shared_slots resolve.now.types payloads.now) n payload (option_map (lift_code resolve.now.types) payload)) 0 payloads.now) bindgen.old bindgen.new) }
+    ensures flows { OnOk result (Flows B.meaning resolve.now.types
+        (blocks_of_cases (length slots.now) (lift_case resolve.now.types slots.now) (lift_code resolve.now.types) payloads.now) words.now [] bindgen.old bindgen.new) }
 {
     for i in 0..payloads.len() {
         lift_case(alloc, resolve, bindgen, words, payloads[i], slots)?;
@@ -252,7 +253,7 @@ fn lift_case<B: Bindgen>(
     requires few { length slots.now ≤ 16 }
     requires enough { length words.now ≡ length slots.now }
     ensures lifts { OnOk result (LiftsCases B.meaning (more (payload_in (shapes resolve.now.types) payload) none) (result_counts (payload ∷ [])) slots.now words.now bindgen.old bindgen.new) }
-    ensures sends { OnOk result ((n : ℕ) → Sends B.meaning resolve.now.types (lift_case resolve.now.types slots.now n payload (option_map (lift_code resolve.now.types) payload)) bindgen.old bindgen.new) }
+    ensures flows { OnOk result ((n : ℕ) → Flows B.meaning resolve.now.types (in_block (lift_case resolve.now.types slots.now n (option_map (λ ty. (ty, lift_code resolve.now.types ty)) payload))) words.now [] bindgen.old bindgen.new) }
 {
     match payload {
         None => {
@@ -285,7 +286,7 @@ fn lift_payload<B: Bindgen>(
     requires few { length slots.now ≤ 16 }
     requires enough { length words.now ≡ length slots.now }
     ensures lifts { OnOk result (LiftsCases B.meaning (more (shape_of resolve.now.types ty) none) (1 ∷ []) slots.now words.now bindgen.old bindgen.new) }
-    ensures sends { OnOk result ((n : ℕ) → Sends B.meaning resolve.now.types (lift_case resolve.now.types slots.now n (Some ty) (Some (lift_code resolve.now.types ty))) bindgen.old bindgen.new) }
+    ensures flows { OnOk result ((n : ℕ) → Flows B.meaning resolve.now.types (in_block (lift_case resolve.now.types slots.now n (Some (ty, lift_code resolve.now.types ty)))) words.now [] bindgen.old bindgen.new) }
 {
     let flat = flat_types(resolve, &ty);
     let count = flat.count as usize;
@@ -323,7 +324,7 @@ fn lift_parts<B: Bindgen>(
     ensures count { IfOk result (λ r. length r.parts ≡ length tys.now) }
     ensures lifts { IfOk result (λ r. (used : List B.Operand) × (drop at words.now ≡ used ++ drop r.next words.now)
         × LiftsAll B.meaning (shapes_of resolve.now.types tys.now) used r.parts bindgen.old bindgen.new) }
-    ensures sends { OnOk result (Sends B.meaning resolve.now.types (each (λ n ty. lift_code resolve.now.types ty) 0 tys.now) bindgen.old bindgen.new) }
+    ensures flows { IfOk result (λ r. Flows B.meaning resolve.now.types (each 0 (word_count resolve.now.types) (λ n ty. lift_code resolve.now.types ty) 0 tys.now) (take (word_counts resolve.now.types tys.now) (drop at words.now)) r.parts bindgen.old bindgen.new) }
 {
     let mut parts = List::new(alloc);
     let mut next = at;

@@ -89,7 +89,7 @@ pub mod Several
 pub mod SiteInstances
 pub mod Starting
 pub mod Steps
-pub mod StillSent
+pub mod StillFlows
 pub mod StoreRows
 pub mod TakenRow
 pub mod TextRows

@@ -1,20 +1,21 @@
 -- Code of whose steps none calls a method keeps the block of the call that was made before it.
 use Rattle.std.proofs.Common.{◌≡◌, ℕ, Bool, true, false, ◌&&◌, List, [], ◌∷◌, ◌++◌, length, map, Option, None, refl, sym, ap, ap₂, ◌∙◌, subst, append_assoc}
-use Rattle.std.specs.Prelude.{option_to_list}
 use Rattle.std.specs.Borrow.{Bor}
-use Rattle.std.specs.List.{list_all}
-use Rattle.std.proofs.lemmas.Bool.{and_parts}
-use Rattle.std.proofs.lemmas.List.Folds.{list_all-append}
+use Rattle.std.proofs.lemmas.Bool.{and_parts, not-true}
 use Rattle.rust_tree.specs.declared.export.CallBlock.{CallBlock}
 use Rattle.wit_model.specs.declared.function.Function.{Function}
+use Rattle.wit_model.specs.declared.function.Param.{Param}
 use Rattle.wit_model.specs.declared.types.TypeDef.{TypeDef}
 use Rattle.wit_model.specs.declared.types.WitType.{WitType}
 use Rattle.wit_layout.specs.declared.signature.AbiVariant.TheVariants.{GuestImport}
+use Rattle.abi_bindgen.specs.declared.instruction.Instruction.{Instruction}
 use Rattle.abi_bindgen.specs.declared.instruction.Instruction.TheVariants.{Bitcasts, CallInterface, CallWasm, ConstZero, GuestDeallocateVariant, OptionLift, OptionLower, ResultLift, ResultLower, Return, VariantLift, VariantLower}
 use Rattle.abi_bindgen.specs.Code.{call_code, pass_code, point_code, post_return_code, read_code}
-use Rattle.abi_bindgen.specs.Sends.{Sends}
-use Rattle.abi_bindgen.specs.Sent.{Sent, asks, closes, opens, sends, sends_casts, sends_zeros}
-use Rattle.abi_bindgen.proofs.InnerSteps.{IsInner, both_inner, depth, depth_both, is_quiet, pass_inner, point_inner, post_return_inner, read_inner}
+use Rattle.abi_bindgen.specs.Calls.{is_call}
+use Rattle.abi_bindgen.specs.Flow.{Flow, ask, behind, both, cast_by, emit, in_block, leading, leave_none, same, zeros_of, ◌>>>◌}
+use Rattle.abi_bindgen.specs.Flows.{Flows}
+use Rattle.abi_bindgen.specs.Sent.{Sent, asks, closes, opens, sends}
+use Rattle.abi_bindgen.proofs.QuietFlows.{is_quiet, pass_quiet, point_quiet, post_return_quiet, quiet_two, read_quiet}
 use Rattle.func_gen.specs.declared.function_bindgen.Code.{Code}
 use Rattle.func_gen.specs.declared.function_bindgen.FinishedBlock.{FinishedBlock}
 use Rattle.func_gen.specs.declared.function_bindgen.FunctionBindgen.{FunctionBindgen}
@@ -95,75 +96,66 @@ module _ (c : Option CallBlock) (old : FunctionBindgen) (h : HasCalled c old) wh
   step_keeps types closes os rs new q f = ends os new f.code
   step_keeps types step os rs new q f = let w = f.code.writes in keeps new w.call w.opened
 
-steps_keep : (types : List TypeDef) (c : Option CallBlock) (steps : List Sent) (old new : FunctionBindgen) → list_all calls_no_method steps ≡ true → Sends func_meaning types steps old new → HasCalled c old → HasCalled c new
-steps_keep types c [] old new q h k = subst (HasCalled c) (sym h) k
-steps_keep types c (sends i ∷ steps) old new q (os, rs, next, e, more) k =
-    let both = and_parts (calls_no_method (sends i)) (list_all calls_no_method steps) q in steps_keep types c steps next new both.1 more (step_keeps c old k types (sends i) os rs next both.0 e.form)
-steps_keep types c (asks a ∷ steps) old new q (o, next, p, more) k = steps_keep types c steps next new q more (step_keeps c old k types (asks a) [] (o ∷ []) next refl (p.form types))
-steps_keep types c (opens ∷ steps) old new q (next, p, more) k = steps_keep types c steps next new q more (step_keeps c old k types opens [] [] next refl (p.form types))
-steps_keep types c (closes ∷ steps) old new q (os, next, p, more) k = steps_keep types c steps next new q more (step_keeps c old k types closes os [] next refl (p.form types))
-steps_keep types c (sends_casts casts ∷ steps) old new q (held, same, os, rs, next, e, more) k = steps_keep types c steps next new q more (step_keeps c old k types (sends (Bitcasts held)) os rs next refl e.form)
-steps_keep types c (sends_zeros zeros ∷ steps) old new q (held, same, os, rs, next, e, more) k = steps_keep types c steps next new q more (step_keeps c old k types (sends (ConstZero held)) os rs next refl e.form)
+-- no method is called
+abbrev uncalling : Flow → Bool
+uncalling (emit i) = calls_no_method (sends i)
+uncalling (in_block code) = uncalling code
+uncalling (one >>> two) = uncalling one && uncalling two
+uncalling (both one two) = uncalling one && uncalling two
+uncalling _ = true
 
--- where no block is open before the steps and behind them
-call_kept : (types : List TypeDef) (c : Option CallBlock) (steps : List Sent) (old new : FunctionBindgen) → list_all calls_no_method steps ≡ true → Sends func_meaning types steps old new → old.opened ≡ [] → new.opened ≡ [] → old.code.call ≡ c → new.code.call ≡ c
-call_kept types c steps old new q h before behind is =
-    subst (λ opened. OuterCalls c opened new.code.call) behind (steps_keep types c steps old new q h (subst (λ opened. OuterCalls c opened old.code.call) (sym before) is))
+flows_keep : (types : List TypeDef) (c : Option CallBlock) (code : Flow) (reads gives : List ExprOperand) (old new : FunctionBindgen) → uncalling code ≡ true → Flows func_meaning types code reads gives old new → HasCalled c old → HasCalled c new
+flows_keep types c (emit i) reads gives old new q e k = step_keeps c old k types (sends i) reads gives new q e.form
+flows_keep types c (cast_by casts) reads gives old new q (held, is, e) k = step_keeps c old k types (sends (Bitcasts held)) reads gives new refl e.form
+flows_keep types c (zeros_of zeros) reads gives old new q (held, is, e) k = step_keeps c old k types (sends (ConstZero held)) reads gives new refl e.form
+flows_keep types c (ask a) reads gives old new q (none, o, is, p) k = step_keeps c old k types (asks a) [] (o ∷ []) new refl (p.form types)
+flows_keep types c (in_block code) reads gives old new q (none, results, begun, ended, begins, inside, ends) k =
+    let inner = flows_keep types c code reads results begun ended q inside (step_keeps c old k types opens [] [] begun refl (begins.form types)) in
+    step_keeps c ended inner types closes results [] new refl (ends.form types)
+flows_keep types c same reads gives old new q h k = subst (HasCalled c) (sym h.1) k
+flows_keep types c leave_none reads gives old new q h k = subst (HasCalled c) (sym h.1) k
+flows_keep types c (leading n) reads gives old new q h k = subst (HasCalled c) (sym h.1) k
+flows_keep types c (behind n) reads gives old new q h k = subst (HasCalled c) (sym h.1) k
+flows_keep types c (one >>> two) reads gives old new q (between, next, h, g) k =
+    let parts = and_parts (uncalling one) (uncalling two) q in flows_keep types c two between gives next new parts.1 g (flows_keep types c one reads between old next parts.0 h k)
+flows_keep types c (both one two) reads gives old new q (left, right, next, h, g, is) k =
+    let parts = and_parts (uncalling one) (uncalling two) q in flows_keep types c two reads right next new parts.1 g (flows_keep types c one reads left old next parts.0 h k)
 
-quiet_calls : (step : Sent) → is_quiet step ≡ true → calls_no_method step ≡ true
-quiet_calls (sends (CallInterface f)) q = absurd (let no = q in cc)
-quiet_calls _ q = refl
+-- where no block is open before the code
+call_kept : (types : List TypeDef) (c : Option CallBlock) (code : Flow) (reads gives : List ExprOperand) (old new : FunctionBindgen) → uncalling code ≡ true → Flows func_meaning types code reads gives old new → old.opened ≡ [] → old.code.call ≡ c → new.code.call ≡ c
+call_kept types c code reads gives old new q h before is =
+    let none = closed_still types code reads gives old new h before in
+    subst (λ opened. OuterCalls c opened new.code.call) none (flows_keep types c code reads gives old new q h (subst (λ opened. OuterCalls c opened old.code.call) (sym before) is))
 
-all_quiet : (steps : List Sent) → list_all is_quiet steps ≡ true → list_all calls_no_method steps ≡ true
-all_quiet [] q = refl
-all_quiet (step ∷ steps) q = let both = and_parts (is_quiet step) (list_all is_quiet steps) q in ap₂ (λ a b. a && b) (quiet_calls step both.0) (all_quiet steps both.1)
+quiet_step : (i : Instruction) → is_call i ≡ false → calls_no_method (sends i) ≡ true
+quiet_step (CallInterface f) q = absurd (let no = q in cc)
+quiet_step _ q = refl
 
--- steps that call nothing
-pub quiet_keep : (types : List TypeDef) (c : Option CallBlock) (steps : List Sent) (old new : FunctionBindgen) → list_all is_quiet steps ≡ true → Sends func_meaning types steps old new → old.opened ≡ [] → new.opened ≡ [] → old.code.call ≡ c
-    → new.code.call ≡ c
-quiet_keep types c steps old new q h before behind is = call_kept types c steps old new (all_quiet steps q) h before behind is
+all_quiet : (code : Flow) → is_quiet code ≡ true → uncalling code ≡ true
+all_quiet (emit i) q = quiet_step i (not-true (is_call i) q)
+all_quiet (in_block code) q = all_quiet code q
+all_quiet (one >>> two) q = let parts = and_parts (is_quiet one) (is_quiet two) q in ap₂ (λ a b. a && b) (all_quiet one parts.0) (all_quiet two parts.1)
+all_quiet (both one two) q = let parts = and_parts (is_quiet one) (is_quiet two) q in ap₂ (λ a b. a && b) (all_quiet one parts.0) (all_quiet two parts.1)
+all_quiet _ q = refl
+
+-- code that calls nothing
+pub quiet_keep : (types : List TypeDef) (c : Option CallBlock) (code : Flow) (reads gives : List ExprOperand) (old new : FunctionBindgen) → is_quiet code ≡ true → Flows func_meaning types code reads gives old new → old.opened ≡ [] → old.code.call ≡ c → new.code.call ≡ c
+quiet_keep types c code reads gives old new q h before is = call_kept types c code reads gives old new (all_quiet code q) h before is
 
 -- 3. The code of an import, and of a post-return function
 
-pub post_return_closed : (types : List TypeDef) (r : Option WitType) (old new : FunctionBindgen) → Sends func_meaning types (post_return_code types r) old new → old.opened ≡ [] → new.opened ≡ []
-post_return_closed types r old new h none = closed_still types (post_return_code types r) old new (post_return_inner types r).nested h none
+pub post_return_uncalled : (types : List TypeDef) (r : Option WitType) (gives : List ExprOperand) (old new : FunctionBindgen) → Flows func_meaning types (post_return_code types r) [] gives old new → old.opened ≡ [] → old.code.call ≡ None → new.code.call ≡ None
+post_return_uncalled types r gives old new h none empty = quiet_keep types None (post_return_code types r) [] gives old new (post_return_quiet types r) h none empty
 
-pub post_return_uncalled : (types : List TypeDef) (r : Option WitType) (old new : FunctionBindgen) → Sends func_meaning types (post_return_code types r) old new → old.opened ≡ [] → old.code.call ≡ None → new.code.call ≡ None
-post_return_uncalled types r old new h none empty =
-    quiet_keep types None (post_return_code types r) old new (post_return_inner types r).quiet h none (post_return_closed types r old new h none) empty
-
-module _ (types : List TypeDef) (func : Bor Function) where
-  abbrev before : List Sent
-  before = pass_code types (map (λ p. p.ty) func.now.params) ++ point_code types func.now.result
-
-  abbrev returns : List Sent
-  returns = sends (Return (length (option_to_list func.now.result))) ∷ []
-
-  abbrev after : List Sent
-  after = read_code types func.now.result ++ returns
-
-  abbrev code : List Sent
-  code = before ++ sends (CallWasm func) ∷ after
-
-  before_inner : IsInner before
-  before_inner = both_inner _ _ (pass_inner types (map (λ p. p.ty) func.now.params)) (point_inner types func.now.result)
-
-  after_inner : IsInner after
-  after_inner = both_inner _ _ (read_inner types func.now.result) (record { nested = λ n. refl; quiet = refl })
-
-  nested : (n : ℕ) → depth code n ≡ n
-  nested n = depth_both before (sends (CallWasm func) ∷ after) n ∙ ap (depth after) (before_inner.nested n) ∙ after_inner.nested n
-
-  no_method : list_all calls_no_method code ≡ true
-  no_method = list_all-append calls_no_method before (sends (CallWasm func) ∷ after) ∙ ap₂ (λ a b. a && b) (all_quiet before before_inner.quiet) (all_quiet after after_inner.quiet)
-
-  module _ (old new : FunctionBindgen) (h : Sends func_meaning types (call_code types GuestImport func) old new) (none : old.opened ≡ []) where
-    steps : Sends func_meaning types code old new
-    steps =
-        let right : call_code types GuestImport func ≡ code = append_assoc before (sends (CallWasm func) ∷ read_code types func.now.result) returns in subst (λ steps. Sends func_meaning types steps old new) right h
-
-    pub import_closed : new.opened ≡ []
-    import_closed = closed_still types code old new nested steps none
-
-    pub import_uncalled : old.code.call ≡ None → new.code.call ≡ None
-    import_uncalled empty = call_kept types None code old new no_method steps none import_closed empty
+pub import_uncalled : (types : List TypeDef) (func : Bor Function) (gives : List ExprOperand) (old new : FunctionBindgen) → Flows func_meaning types (call_code types GuestImport func) [] gives old new → old.opened ≡ [] → old.code.call ≡ None → new.code.call ≡ None
+import_uncalled types func gives old new h none empty =
+    let f = func.now in
+    let tys = map (λ (p : Param). p.ty) f.params in
+    let passed = all_quiet (pass_code types tys) (pass_quiet types tys) in
+    let pointed = all_quiet (point_code types f.result) (point_quiet types f.result) in
+    let read = all_quiet (read_code types f.result) (read_quiet types f.result) in
+    let before : Bool = uncalling (pass_code types tys) && uncalling (point_code types f.result) in
+    let after : Bool = uncalling (read_code types f.result) in
+    let begun = quiet_two (uncalling (pass_code types tys)) (uncalling (point_code types f.result)) passed pointed in
+    let whole = quiet_two ((before && true) && after) true (quiet_two (before && true) after (quiet_two before true begun refl) read) refl in
+    call_kept types None (call_code types GuestImport func) [] gives old new whole h none empty

@@ -1,5 +1,5 @@
 -- An item that closes the body which was made for an export closes the driver's code, and so it is faithful.
-use Rattle.std.proofs.Common.{ℕ, false, List, length, Option, Some, sym, ap, ap₂, ◌∙◌, subst}
+use Rattle.std.proofs.Common.{ℕ, false, List, [], length, Option, Some, sym, ap, ap₂, ◌∙◌, subst}
 use Rattle.std.specs.Borrow.{Bor}
 use Rattle.rust_tree.specs.Ident.{rust_ident}
 use Rattle.rust_tree.specs.Tree.{Tree}
@@ -16,7 +16,7 @@ use Rattle.func_gen.specs.Meaning.{Found, GivesAsCalled, func_meaning}
 use Rattle.func_gen.specs.TypeSites.{AreDefined}
 use Rattle.func_gen.specs.Sites.{site_names}
 use Rattle.func_gen.specs.declared.body.Body.{Body}
-use Rattle.func_gen.proofs.StillSent.{still_sent}
+use Rattle.func_gen.proofs.StillFlows.{still_flows}
 use Rattle.wrapper_closing.specs.Bodies.{is_plain_call}
 use Rattle.wrapper_closing.specs.ClosedExport.{AnswersComeIn, ClosesExport, export_file}
 use Rattle.wrapper_closing.specs.ExportBody.{ClosesExportBody}
@@ -34,7 +34,7 @@ closes_export types func parts body names results tree nth c =
     let b = k.body_of in
     let f = func.now in
     let home = sym k.made.of_home in
-    let (os, count, gave) = export_given types func k.old k.new k.sends in
+    let (os, count, gave) = export_given types func [] k.old k.new k.flows in
     let tail : Gives (Some os) body.tail = subst (λ r. Gives r body.tail) gave b.tail in
     record {
       number = c.number;
@@ -42,7 +42,7 @@ closes_export types func parts body names results tree nth c =
       there = c.there;
       begun = begun_of types false parts k.old c.parted k.made;
       export = k.made.of_import;
-      still = still_sent types (call_code types GuestExport func) k.old k.new k.sends;
+      still = still_flows types (call_code types GuestExport func) [] [] k.old k.new k.flows;
       calls = k.calls;
       many = ap length k.made.of_params ∙ k.many;
       head = sym b.call ∙ c.head;

@@ -17,7 +17,7 @@ use Rattle.func_gen.specs.Meaning.{Found}
 use Rattle.func_gen.specs.TypeSites.{AreDefined}
 use Rattle.func_gen.specs.Sites.{site_names}
 use Rattle.func_gen.specs.declared.body.Body.{Body}
-use Rattle.func_gen.proofs.StillSent.{still_sent}
+use Rattle.func_gen.proofs.StillFlows.{still_flows}
 use Rattle.wrapper_closing.specs.ClosedImport.{ClosesImport}
 use Rattle.wrapper_closing.specs.ImportBlock.{area_stmts, block_of, import_block, local_area}
 use Rattle.wrapper_closing.specs.ImportBody.{ClosesImportBody}
@@ -35,7 +35,7 @@ closes_import : (types : List TypeDef) (func : Bor Function) (parts : BodyParts)
 closes_import types func parts body tree nth c =
     let k = c.makes in
     let b = k.body_of in
-    let (os, count, gave) = import_given types func k.old k.new k.sends in
+    let (os, count, gave) = import_given types func [] k.old k.new k.flows in
     let tail : Gives (Some os) body.tail = subst (λ r. Gives r body.tail) gave b.tail in
     let area : local_area parts.area body.area ≡ area_stmts k.old.area k.new.asked =
     ap₂ local_area (sym k.made.of_area) b.area ∙ local_needed k.old.area k.new.asked in
@@ -48,7 +48,7 @@ closes_import types func parts body tree nth c =
       there = c.there;
       begun = begun_of types true parts k.old c.parted k.made;
       import = k.made.of_import;
-      still = still_sent types (call_code types GuestImport func) k.old k.new k.sends;
+      still = still_flows types (call_code types GuestImport func) [] [] k.old k.new k.flows;
       calls = k.calls;
       many = ap length k.made.of_params ∙ k.many;
       headless = sym b.call ∙ k.headless;

@@ -1,5 +1,5 @@
 -- The body that was made for an import declares one core import, which is that of its function.
-use Rattle.std.proofs.Common.{◌≡◌, true, List, [], ◌∷◌, ◌++◌, length, map, Option, None, Some, refl, sym, ap, ◌∙◌, subst, append_assoc}
+use Rattle.std.proofs.Common.{◌≡◌, true, List, [], ◌∷◌, ◌++◌, length, map, Option, None, Some, refl, sym, ap, ◌∙◌, subst}
 use Rattle.std.specs.Prelude.{option_to_list}
 use Rattle.std.specs.Borrow.{Bor}
 use Rattle.wit_model.specs.Bytes.{Bytes}
@@ -13,12 +13,12 @@ use Rattle.rust_tree.specs.declared.stmt.ImportDecl.{ImportDecl}
 use Rattle.rust_tree.specs.declared.stmt.Stmt.{Stmt}
 use Rattle.wrapper_run.proofs.StmtSteps.{code-opened}
 use Rattle.abi_bindgen.specs.declared.bindgen.Asked.{Asked}
-use Rattle.abi_bindgen.specs.declared.instruction.Instruction.TheVariants.{CallWasm, Return}
+use Rattle.abi_bindgen.specs.declared.instruction.Instruction.TheVariants.{Return}
 use Rattle.abi_bindgen.specs.Calls.{import_params, import_results}
 use Rattle.abi_bindgen.specs.Code.{call_code, pass_code, point_code, read_code}
-use Rattle.abi_bindgen.specs.Sends.{Sends}
-use Rattle.abi_bindgen.specs.Sent.{Sent, sends}
-use Rattle.abi_bindgen.proofs.InnerSteps.{IsInner, both_inner, pass_inner, point_inner, read_inner, sent_depth}
+use Rattle.abi_bindgen.specs.Flow.{Flow, both, emit}
+use Rattle.abi_bindgen.specs.Flows.{Flows}
+use Rattle.abi_bindgen.proofs.QuietFlows.{is_quiet, pass_quiet, point_quiet, quiet_two, read_quiet}
 use Rattle.func_gen.specs.declared.body.Body.{Body}
 use Rattle.func_gen.specs.declared.function_bindgen.Code.{Code}
 use Rattle.func_gen.specs.declared.function_bindgen.FunctionBindgen.{FunctionBindgen}
@@ -28,14 +28,13 @@ use Rattle.func_gen.specs.CodeOf.{calls_core}
 use Rattle.func_gen.specs.Emission.{Writes}
 use Rattle.func_gen.specs.Formed.{CallsImported}
 use Rattle.func_gen.specs.Meaning.{func_meaning}
-use Rattle.func_gen.specs.Opened.{is_closed}
 use Rattle.func_gen.specs.PartForms.{exprs_of}
-use Rattle.func_gen.proofs.StillSent.{still_sent}
+use Rattle.func_gen.proofs.StillFlows.{still_flows}
 use Rattle.wrapper_closing.specs.Bodies.{MakesImport}
 use Rattle.wrapper_closing.specs.Declares.{DeclaresOne, Import, IsImportOf}
 use Rattle.wrapper_closing.specs.ImportBlock.{block_of as block_with, local_area}
 use Rattle.wrapper_closing.specs.declared.parts.BodyParts.{BodyParts}
-use Rattle.wrapper_closing.proofs.StepsDeclare.{HasDeclared, Outer, closed_is, declares_still, no_more, open_many, outside_of, sent_parts}
+use Rattle.wrapper_closing.proofs.StepsDeclare.{HasDeclared, Outer, closed_before, closed_still, declares_still, outside_of}
 use Rattle.wrapper_closing.proofs.Undeclared.{AreBare, Declare, area_one, declare_behind, expr_one, import_then, let_one, no_stmts}
 
 -- 1. The call
@@ -64,44 +63,26 @@ call_declares types f os rs old new none h c = go c.answer c.answers c.writes
 
 -- 2. The whole code of an import
 
-module _ (types : List TypeDef) (func : Bor Function) (old new : FunctionBindgen) (h : Sends func_meaning types (call_code types GuestImport func) old new) (closed : is_closed new.opened ≡ true) where
-  abbrev before : List Sent
-  before = pass_code types (map (λ p. p.ty) func.now.params) ++ point_code types func.now.result
+module _ (types : List TypeDef) (func : Bor Function) (gives : List ExprOperand) (old new : FunctionBindgen) (h : Flows func_meaning types (call_code types GuestImport func) [] gives old new) (none : old.opened ≡ []) where
+  abbrev before : Flow
+  before = both (pass_code types (map (λ p. p.ty) func.now.params)) (point_code types func.now.result)
 
-  abbrev after : List Sent
-  after = read_code types func.now.result ++ sends (Return (length (option_to_list func.now.result))) ∷ []
+  before_quiet : is_quiet before ≡ true
+  before_quiet = quiet_two _ _ (pass_quiet types (map (λ p. p.ty) func.now.params)) (point_quiet types func.now.result)
 
-  before_inner : IsInner before
-  before_inner = both_inner _ _ (pass_inner types (map (λ p. p.ty) func.now.params)) (point_inner types func.now.result)
-
-  after_inner : IsInner after
-  after_inner = both_inner _ _ (read_inner types func.now.result) (record { nested = λ n. refl; quiet = refl })
-
-  parts : (mid : FunctionBindgen) × Sends func_meaning types before old mid × Sends func_meaning types (sends (CallWasm func) ∷ after) mid new
-  parts =
-      let returns = sends (Return (length (option_to_list func.now.result))) ∷ [] in
-      let right = append_assoc before (sends (CallWasm func) ∷ read_code types func.now.result) returns in
-      sent_parts types before (sends (CallWasm func) ∷ after) old new (subst (λ steps. Sends func_meaning types steps old new) right h)
-
-  -- no block is open at the call
-  none_open : parts.0.opened ≡ []
-  none_open =
-      no_more parts.0.opened
-      (sym (open_many parts.0) ∙ sym (after_inner.nested (length (func_meaning.opened parts.0))) ∙ sym (sent_depth func_meaning types (sends (CallWasm func) ∷ after) parts.0 new parts.2) ∙ open_many new ∙ ap length (closed_is new.opened closed))
-
-  none_before : old.opened ≡ []
-  none_before =
-      no_more old.opened
-      (sym (open_many old) ∙ sym (before_inner.nested (length (func_meaning.opened old))) ∙ sym (sent_depth func_meaning types before old parts.0 parts.1) ∙ open_many parts.0 ∙ ap length none_open)
+  pub import_closed : new.opened ≡ []
+  import_closed = closed_still types (call_code types GuestImport func) [] gives old new h none
 
   code_declares : old.code.stmts ≡ [] → old.finished ≡ [] → (decl : ImportDecl) × IsImportOf types old.home func.now decl × Declare Import (decl ∷ []) new.code.stmts
   code_declares empty unfinished =
-      let begins : HasDeclared Import [] old = record { outer = subst (λ o. Outer Import [] o old.code.stmts) (sym none_before) (subst (Declare Import []) (sym empty) (no_stmts Import)); blocks = subst (AreBare Import) (sym unfinished) tt } in
-      let (mid, sent, rest) = parts in
-      let (os, rs, next, e, more) = rest in
-      let (decl, is, has) = call_declares types func.now os rs mid next none_open (declares_still Import types [] before old mid before_inner.quiet sent begins) e.form.code in
-      let ends = declares_still Import types (decl ∷ []) after next new after_inner.quiet more has in
-      (decl, subst (λ home. IsImportOf types home func.now decl) (still_sent types before old mid sent).home is, outside_of Import (decl ∷ []) new (closed_is new.opened closed) ends)
+      let begins : HasDeclared Import [] old = record { outer = subst (λ o. Outer Import [] o old.code.stmts) (sym none) (subst (Declare Import []) (sym empty) (no_stmts Import)); blocks = subst (AreBare Import) (sym unfinished) tt } in
+      let (given, last, (answer, called, (passed, mid, first, (back, pointer, next, e, stays, is)), reads), ends) = h in
+      let open_at_call = closed_still types before [] passed old mid first none in
+      let (decl, is_import, has) = call_declares types func.now passed back mid next open_at_call (declares_still Import types [] before [] passed old mid before_quiet first begins) e.form.code in
+      let has_still = subst (HasDeclared Import (decl ∷ [])) (sym stays.1) has in
+      let has_read = declares_still Import types (decl ∷ []) (read_code types func.now.result) answer given called last (read_quiet types func.now.result) reads has_still in
+      let has_all = declares_still Import types (decl ∷ []) (emit (Return (length (option_to_list func.now.result)))) given gives last new refl ends has_read in
+      (decl, subst (λ home. IsImportOf types home func.now decl) (still_flows types before [] passed old mid first).home is_import, outside_of Import (decl ∷ []) new import_closed has_all)
 
 -- 3. The block of the body, with its area in front
 
@@ -111,7 +92,7 @@ area_before name (Some a) = area_one (record { name = name; size = a.size; align
 
 pub import_body_declares : (types : List TypeDef) (func : Bor Function) (parts : BodyParts) (body : Body) → MakesImport types func parts body → DeclaresOne types parts.home func.now (block_with parts.area body).stmts
 import_body_declares types func parts body m =
-    let (decl, is, has) = code_declares types func m.old m.new m.sends m.body_of.closed (ap (λ (c : Code). c.stmts) m.made.empty) m.made.unfinished in
+    let (decl, is, has) = code_declares types func [] m.old m.new m.flows (closed_before types (call_code types GuestImport func) [] [] m.old m.new m.flows m.body_of.closed) (ap (λ (c : Code). c.stmts) m.made.empty) m.made.unfinished in
     let whole = declare_behind Import (decl ∷ []) (local_area parts.area body.area) body.stmts (area_before parts.area body.area) (subst (Declare Import (decl ∷ [])) (sym m.body_of.stmts) has) in
     let same : (block_with parts.area body).stmts ≡ local_area parts.area body.area ++ body.stmts = ap (λ (l : Block-F Stmt Arm Block). l.stmts) (code-opened (local_area parts.area body.area ++ body.stmts) body.tail) in
     subst (DeclaresOne types parts.home func.now) (sym same) (decl, whole.outside, subst (λ home. IsImportOf types home func.now decl) m.made.of_home is, whole.arms)

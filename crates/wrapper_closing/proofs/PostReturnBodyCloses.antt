@@ -1,5 +1,5 @@
 -- A post-return function that closes the body which was made for it closes the driver's code, and so it frees what the words own.
-use Rattle.std.proofs.Common.{◌≡◌, ℕ, false, List, None, sym, ap, ap₂, ◌∙◌, subst}
+use Rattle.std.proofs.Common.{◌≡◌, ℕ, false, List, [], None, sym, ap, ap₂, ◌∙◌, subst}
 use Rattle.rust_tree.specs.Tree.{Tree}
 use Rattle.wit_model.specs.declared.function.Function.{Function}
 use Rattle.wit_model.specs.declared.types.TypeDef.{TypeDef}
@@ -9,7 +9,7 @@ use Rattle.func_gen.specs.Meaning.{Found}
 use Rattle.func_gen.specs.TypeSites.{AreDefined}
 use Rattle.func_gen.specs.Sites.{site_names}
 use Rattle.func_gen.specs.declared.body.Body.{Body}
-use Rattle.func_gen.proofs.StillSent.{still_sent}
+use Rattle.func_gen.proofs.StillFlows.{still_flows}
 use Rattle.wrapper_closing.specs.ClosedPostReturn.{ClosesPostReturn}
 use Rattle.wrapper_closing.specs.Laws.{PostReturnBodyFrees, PostReturnBodyIsReturned}
 use Rattle.wrapper_closing.specs.PostReturnBody.{ClosesPostReturnBody}
@@ -21,7 +21,7 @@ closes_post_return : (types : List TypeDef) (f : Function) (parts : BodyParts) (
 closes_post_return types f parts body tree nth c =
     let k = c.makes in
     let b = k.body_of in
-    let still = still_sent types (post_return_code types f.result) k.old k.new k.sends in
+    let still = still_flows types (post_return_code types f.result) [] [] k.old k.new k.flows in
     let tail : body.tail ≡ None = subst (λ r. Gives r body.tail) k.frees.returned b.tail in
     record {
       number = c.number;

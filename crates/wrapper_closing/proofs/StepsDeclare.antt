@@ -1,6 +1,5 @@
--- What the code of steps that are no calls declares, where so much was declared before them.
-use Rattle.std.proofs.Common.{◌≡◌, ℕ, suc, true, List, [], ◌∷◌, ◌++◌, length, reverse, refl, sym, ap, ◌∙◌, subst}
-use Rattle.std.specs.List.{list_all}
+-- What code that calls nothing declares, where so much was declared before it.
+use Rattle.std.proofs.Common.{◌≡◌, ℕ, Bool, not, suc, true, List, [], ◌∷◌, ◌++◌, length, reverse, refl, sym, ap, ◌∙◌, subst}
 use Rattle.std.proofs.lemmas.Bool.{and_parts}
 use Rattle.std.proofs.lemmas.List.{length-map, length-reverse, reverse-append, reverse-reverse}
 use Rattle.wit_model.specs.Bytes.{Bytes}
@@ -11,9 +10,11 @@ use Rattle.rust_tree.specs.declared.runtime_item.RuntimeItem.TheVariants.{Invali
 use Rattle.rust_tree.specs.declared.stmt.ImportDecl.{ImportDecl}
 use Rattle.rust_tree.specs.declared.stmt.Stmt.{Stmt}
 use Rattle.abi_bindgen.specs.declared.instruction.Instruction.TheVariants.{Bitcasts, CallInterface, CallWasm, ConstZero, GuestDeallocateVariant, OptionLift, OptionLower, ResultLift, ResultLower, VariantLift, VariantLower}
-use Rattle.abi_bindgen.specs.Sends.{Sends}
-use Rattle.abi_bindgen.specs.Sent.{Sent, asks, closes, opens, sends, sends_casts, sends_zeros}
-use Rattle.abi_bindgen.proofs.InnerSteps.{depth, is_quiet, sent_depth}
+use Rattle.abi_bindgen.specs.Calls.{is_call}
+use Rattle.abi_bindgen.specs.Flow.{Flow, ask, behind, both, cast_by, emit, in_block, leading, leave_none, same, zeros_of, ◌>>>◌}
+use Rattle.abi_bindgen.specs.Flows.{Flows}
+use Rattle.abi_bindgen.specs.Sent.{Sent, asks, closes, opens, sends}
+use Rattle.abi_bindgen.proofs.QuietFlows.{flows_opened, is_quiet}
 use Rattle.func_gen.specs.declared.function_bindgen.Code.{Code}
 use Rattle.func_gen.specs.declared.function_bindgen.FinishedBlock.{FinishedBlock}
 use Rattle.func_gen.specs.declared.function_bindgen.FunctionBindgen.{FunctionBindgen}
@@ -29,6 +30,11 @@ use Rattle.func_gen.specs.PartForms.{exprs_of}
 use Rattle.func_gen.specs.Uses.{Uses}
 use Rattle.wrapper_closing.specs.Declares.{Declaration}
 use Rattle.wrapper_closing.proofs.Undeclared.{AreBare, Declare, IsBare, declare_more, frees_bare, last_bare, lifts_bare, lowers_bare, no_stmts, told_bare}
+
+-- a step is no call
+abbrev is_step_quiet : Sent → Bool
+is_step_quiet (sends i) = not (is_call i)
+is_step_quiet _ = true
 
 -- 1. What is declared by code that is made
 
@@ -151,7 +157,7 @@ module _ (what : Declaration) where
         adds new (t.code t.writes.number).stmts t.writes.opened t.writes.stmts (bare t.writes.number) (subst (AreBare what) (sym t.writes.finished) h.blocks)
 
     -- a step that is no call leaves what is declared
-    step_declares : (types : List TypeDef) (step : Sent) (os rs : List ExprOperand) (new : FunctionBindgen) → is_quiet step ≡ true → Formed types step os rs old new → HasDeclared decls new
+    step_declares : (types : List TypeDef) (step : Sent) (os rs : List ExprOperand) (new : FunctionBindgen) → is_step_quiet step ≡ true → Formed types step os rs old new → HasDeclared decls new
     step_declares types (sends (CallWasm g)) os rs new q f = absurd (let no = q in cc)
     step_declares types (sends (CallInterface g)) os rs new q f = absurd (let no = q in cc)
     step_declares types (sends (VariantLower id n)) os rs new q f = let c = f.code in lowered c.forms c.operand n c.names new c.lowers
@@ -165,50 +171,53 @@ module _ (what : Declaration) where
     step_declares types closes os rs new q f = closed_block os new f.code
     step_declares types step os rs new q f = written step os rs new f.code
 
-  -- 3. Steps
+  -- 3. Code
 
-  pub declares_still : (types : List TypeDef) (decls : List ImportDecl) (steps : List Sent) (old new : FunctionBindgen) → list_all is_quiet steps ≡ true → Sends func_meaning types steps old new → HasDeclared decls old → HasDeclared decls new
-  declares_still types decls [] old new q h d = subst (HasDeclared decls) (sym h) d
-  declares_still types decls (sends i ∷ steps) old new q (os, rs, next, e, more) d =
-      let both = and_parts (is_quiet (sends i)) (list_all is_quiet steps) q in declares_still types decls steps next new both.1 more (step_declares decls old d types (sends i) os rs next both.0 e.form)
-  declares_still types decls (asks a ∷ steps) old new q (o, next, p, more) d = declares_still types decls steps next new q more (step_declares decls old d types (asks a) [] (o ∷ []) next refl (p.form types))
-  declares_still types decls (opens ∷ steps) old new q (next, p, more) d = declares_still types decls steps next new q more (step_declares decls old d types opens [] [] next refl (p.form types))
-  declares_still types decls (closes ∷ steps) old new q (os, next, p, more) d = declares_still types decls steps next new q more (step_declares decls old d types closes os [] next refl (p.form types))
-  declares_still types decls (sends_casts casts ∷ steps) old new q (held, same, os, rs, next, e, more) d = declares_still types decls steps next new q more (step_declares decls old d types (sends (Bitcasts held)) os rs next refl e.form)
-  declares_still types decls (sends_zeros zeros ∷ steps) old new q (held, same, os, rs, next, e, more) d = declares_still types decls steps next new q more (step_declares decls old d types (sends (ConstZero held)) os rs next refl e.form)
+  pub declares_still : (types : List TypeDef) (decls : List ImportDecl) (code : Flow) (reads gives : List ExprOperand) (old new : FunctionBindgen) → is_quiet code ≡ true → Flows func_meaning types code reads gives old new → HasDeclared decls old → HasDeclared decls new
+  declares_still types decls (emit i) reads gives old new q e d = step_declares decls old d types (sends i) reads gives new q e.form
+  declares_still types decls (cast_by casts) reads gives old new q (held, is, e) d = step_declares decls old d types (sends (Bitcasts held)) reads gives new refl e.form
+  declares_still types decls (zeros_of zeros) reads gives old new q (held, is, e) d = step_declares decls old d types (sends (ConstZero held)) reads gives new refl e.form
+  declares_still types decls (ask a) reads gives old new q (none, o, is, p) d = step_declares decls old d types (asks a) [] (o ∷ []) new refl (p.form types)
+  declares_still types decls (in_block code) reads gives old new q (none, results, begun, ended, begins, inside, ends) d =
+      let inner = declares_still types decls code reads results begun ended q inside (step_declares decls old d types opens [] [] begun refl (begins.form types)) in
+      step_declares decls ended inner types closes results [] new refl (ends.form types)
+  declares_still types decls same reads gives old new q h d = subst (HasDeclared decls) (sym h.1) d
+  declares_still types decls leave_none reads gives old new q h d = subst (HasDeclared decls) (sym h.1) d
+  declares_still types decls (leading n) reads gives old new q h d = subst (HasDeclared decls) (sym h.1) d
+  declares_still types decls (behind n) reads gives old new q h d = subst (HasDeclared decls) (sym h.1) d
+  declares_still types decls (one >>> two) reads gives old new q (between, next, h, g) d =
+      let parts = and_parts (is_quiet one) (is_quiet two) q in declares_still types decls two between gives next new parts.1 g (declares_still types decls one reads between old next parts.0 h d)
+  declares_still types decls (both one two) reads gives old new q (left, right, next, h, g, is) d =
+      let parts = and_parts (is_quiet one) (is_quiet two) q in declares_still types decls two reads right next new parts.1 g (declares_still types decls one reads left old next parts.0 h d)
 
   -- what the code declares where no block is open
   pub outside_of : (decls : List ImportDecl) (b : FunctionBindgen) → b.opened ≡ [] → HasDeclared decls b → Declare what decls b.code.stmts
   outside_of decls b none h = subst (λ o. Outer decls o b.code.stmts) none h.outer
 
--- 4. Parts of steps, and blocks that are open
+-- 4. Blocks that are open
 
--- what was sent first, and then the rest
-pub sent_parts : (types : List TypeDef) (steps later : List Sent) (old new : FunctionBindgen) → Sends func_meaning types (steps ++ later) old new → (mid : FunctionBindgen) × Sends func_meaning types steps old mid × Sends func_meaning types later mid new
-sent_parts types [] later old new h = (old, refl, h)
-sent_parts types (sends i ∷ steps) later old new (os, rs, next, e, more) = let (mid, one, two) = sent_parts types steps later next new more in (mid, (os, rs, next, e, one), two)
-sent_parts types (asks a ∷ steps) later old new (o, next, p, more) = let (mid, one, two) = sent_parts types steps later next new more in (mid, (o, next, p, one), two)
-sent_parts types (opens ∷ steps) later old new (next, p, more) = let (mid, one, two) = sent_parts types steps later next new more in (mid, (next, p, one), two)
-sent_parts types (closes ∷ steps) later old new (os, next, p, more) = let (mid, one, two) = sent_parts types steps later next new more in (mid, (os, next, p, one), two)
-sent_parts types (sends_casts casts ∷ steps) later old new (held, same, os, rs, next, e, more) = let (mid, one, two) = sent_parts types steps later next new more in (mid, (held, same, os, rs, next, e, one), two)
-sent_parts types (sends_zeros zeros ∷ steps) later old new (held, same, os, rs, next, e, more) = let (mid, one, two) = sent_parts types steps later next new more in (mid, (held, same, os, rs, next, e, one), two)
-
-pub no_more : {A : Type 0} (xs : List A) → length xs ≡ 0 → xs ≡ []
+no_more : {A : Type 0} (xs : List A) → length xs ≡ 0 → xs ≡ []
 no_more [] h = refl
 no_more (x ∷ xs) h = absurd (let no = h in cc)
 
-pub closed_is : (opened : List OpenBlock) → is_closed opened ≡ true → opened ≡ []
-closed_is [] h = refl
-closed_is (o ∷ opened) h = absurd (let no = h in cc)
-
 -- how many blocks are open
-pub open_many : (b : FunctionBindgen) → length (func_meaning.opened b) ≡ length b.opened
+open_many : (b : FunctionBindgen) → length (func_meaning.opened b) ≡ length b.opened
 open_many b = length-map (reverse b.opened) open_block ∙ length-reverse b.opened
 
 pub none_open : (b : FunctionBindgen) → func_meaning.opened b ≡ [] → b.opened ≡ []
 none_open b h = no_more b.opened (sym (open_many b) ∙ ap length h)
 
--- code that opens and closes its blocks in pairs leaves none open
-pub closed_still : (types : List TypeDef) (steps : List Sent) (old new : FunctionBindgen) → ((n : ℕ) → depth steps n ≡ n) → Sends func_meaning types steps old new → old.opened ≡ [] → new.opened ≡ []
-closed_still types steps old new nested h none =
-    no_more new.opened (sym (open_many new) ∙ sent_depth func_meaning types steps old new h ∙ nested (length (func_meaning.opened old)) ∙ open_many old ∙ ap length none)
+-- code leaves as many open as there were
+pub as_open : (types : List TypeDef) (code : Flow) (reads gives : List ExprOperand) (old new : FunctionBindgen) → Flows func_meaning types code reads gives old new → length new.opened ≡ length old.opened
+as_open types code reads gives old new h = sym (open_many new) ∙ ap length (flows_opened func_meaning types code reads gives old new h) ∙ open_many old
+
+pub closed_still : (types : List TypeDef) (code : Flow) (reads gives : List ExprOperand) (old new : FunctionBindgen) → Flows func_meaning types code reads gives old new → old.opened ≡ [] → new.opened ≡ []
+closed_still types code reads gives old new h none = no_more new.opened (as_open types code reads gives old new h ∙ ap length none)
+
+closed_is : (opened : List OpenBlock) → is_closed opened ≡ true → opened ≡ []
+closed_is [] h = refl
+closed_is (o ∷ opened) h = absurd (let no = h in cc)
+
+-- and where none is open behind it, none was before
+pub closed_before : (types : List TypeDef) (code : Flow) (reads gives : List ExprOperand) (old new : FunctionBindgen) → Flows func_meaning types code reads gives old new → is_closed new.opened ≡ true → old.opened ≡ []
+closed_before types code reads gives old new h closed = no_more old.opened (sym (as_open types code reads gives old new h) ∙ ap length (closed_is new.opened closed))

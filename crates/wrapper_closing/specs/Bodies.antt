@@ -1,6 +1,6 @@
 -- What the body of a wrapper is: the driver's code for its function.
 use Rattle.std.specs.Borrow.{Bor}
-use Rattle.std.specs.Prelude.{◌≡◌, Bool, true, false, List, length, Option, None, Some}
+use Rattle.std.specs.Prelude.{◌≡◌, Bool, true, false, List, [], length, Option, None, Some}
 use Rattle.wit_model.specs.declared.function.Function.{Function}
 use Rattle.wit_model.specs.declared.types.TypeDef.{TypeDef}
 use Rattle.rust_tree.specs.declared.export.CallBlock.{CallBlock}
@@ -9,7 +9,7 @@ use Rattle.wrapper_meaning.specs.Shape.{result_shape}
 use Rattle.abi_bindgen.specs.Code.{call_code, post_return_code}
 use Rattle.abi_driver.specs.Exports.{export_params}
 use Rattle.abi_bindgen.specs.Frees.{PostReturns}
-use Rattle.abi_bindgen.specs.Sends.{Sends}
+use Rattle.abi_bindgen.specs.Flows.{Flows}
 use Rattle.abi_driver.specs.WholeCalls.{CallsFunction}
 use Rattle.func_gen.specs.Body.{IsBodyOf}
 use Rattle.func_gen.specs.Meaning.{func_meaning}
@@ -27,7 +27,7 @@ pub record MakesImport (types : List TypeDef) (func : Bor Function) (parts : Bod
   pub made : IsMadeFrom true parts old
   pub many : length parts.params ≡ length func.now.params
   pub calls : CallsFunction func_meaning types GuestImport func.now old new
-  pub sends : Sends func_meaning types (call_code types GuestImport func) old new
+  pub flows : Flows func_meaning types (call_code types GuestImport func) [] [] old new
   pub body_of : IsBodyOf new body
   pub headless : body.call ≡ None
 
@@ -46,7 +46,7 @@ pub record MakesExport (types : List TypeDef) (func : Bor Function) (parts : Bod
   pub made : IsMadeFrom false parts old
   pub many : length parts.params ≡ length (export_params types func.now)
   pub calls : CallsFunction func_meaning types GuestExport func.now old new
-  pub sends : Sends func_meaning types (call_code types GuestExport func) old new
+  pub flows : Flows func_meaning types (call_code types GuestExport func) [] [] old new
   pub body_of : IsBodyOf new body
   pub method : calls_method body ≡ true
   pub plain : declare_none Area body.stmts ≡ true
@@ -58,6 +58,6 @@ pub record MakesPostReturn (types : List TypeDef) (f : Function) (parts : BodyPa
   pub new : FunctionBindgen
   pub made : IsMadeFrom false parts old
   pub frees : PostReturns func_meaning (result_shape types f) old new
-  pub sends : Sends func_meaning types (post_return_code types f.result) old new
+  pub flows : Flows func_meaning types (post_return_code types f.result) [] [] old new
   pub body_of : IsBodyOf new body
   pub headless : body.call ≡ None

@@ -1,6 +1,6 @@
 //! Values of variants, options and results become core words: what their blocks have in common.
 
-ghost use Rattle.std.specs.Prelude.{◌≡◌, ◌<◌, ◌^◌, ◌∷◌, ◌++◌, Bool, true, map, None, IfOk, OnOk};
+ghost use Rattle.std.specs.Prelude.{◌≡◌, ◌<◌, ◌^◌, [], ◌∷◌, ◌++◌, Bool, true, map, None, IfOk, OnOk};
 ghost use Rattle.wrapper_meaning.specs.Shape.{nothing};
 ghost use Rattle.wrapper_meaning.specs.Shape.Shapes.{none, more};
 ghost use Rattle.abi_bindgen.specs.Blocks.{Finishes, IsOpen};
@@ -8,7 +8,8 @@ ghost use Rattle.abi_bindgen.specs.CaseBlocks.{LowersCases};
 ghost use Rattle.abi_bindgen.specs.Cases.{payloads_of};
 ghost use Rattle.abi_bindgen.specs.Code.{lower_case};
 ghost use Rattle.abi_bindgen.specs.Instructions.{case_lowering, has_cases};
-ghost use Rattle.abi_bindgen.specs.Sends.{Sends};
+ghost use Rattle.abi_bindgen.specs.Flow.{in_block};
+ghost use Rattle.abi_bindgen.specs.Flows.{Flows};
 
 use crate::bindgen::{Bindgen, Operand};
 use crate::casts::zero_words;
@@ -95,7 +96,7 @@ pub(crate) fn lower_bare<B: Bindgen>(
 ) -> Result<(), OutOfMemory>
     requires { number < 2 ^ 31 }
     ensures lowers { OnOk result ((realloc : Bool) → LowersCases B.meaning realloc (more nothing none) number slots.now bindgen.old bindgen.new) }
-    ensures sends { OnOk result (Sends B.meaning resolve.now.types (lower_case resolve.now.types slots.now number None None) bindgen.old bindgen.new) }
+    ensures flows { OnOk result (Flows B.meaning resolve.now.types (in_block (lower_case resolve.now.types slots.now number None)) [] [] bindgen.old bindgen.new) }
 {
     bindgen.push_block()?;
     let inst = Instruction::I32Const(number as i32);

@@ -14,6 +14,7 @@ use Rattle.wrapper_meaning.specs.Shape.{shapes}
 use Rattle.abi_bindgen.specs.declared.instruction.Instruction.TheVariants as i
 use Rattle.abi_bindgen.specs.Code.{lift_code, lower_code, made}
 use Rattle.abi_bindgen.specs.Sent.{closes, opens, sends, sends_casts, sends_zeros}
+use Rattle.abi_driver.proofs.Instances.Steps.{steps}
 
 no_docs : Docs
 no_docs = record { contents = None }
@@ -34,26 +35,26 @@ types =
     ∷ of_kind (kind.Variant (record { name = no_name; ty = None; docs = no_docs } ∷ record { name = no_name; ty = Some wit.U8; docs = no_docs } ∷ [])) ∷ []
 
 -- a float goes to the slot of a pointer, and the slot of a length is left over
-result_lowered : lower_code types false (id 0)
+result_lowered : steps (lower_code types false (id 0))
     ≡ opens ∷ sends i.VariantPayloadName ∷ sends (i.I32Const (pos 0)) ∷ sends i.CoreF32FromF32 ∷ sends_casts (bitcast.Sequence F32 I32 Pointer ∷ []) ∷ sends_zeros (Length ∷ []) ∷ closes
     ∷ opens ∷ sends i.VariantPayloadName ∷ sends (i.I32Const (pos 1)) ∷ sends (i.StringLower false) ∷ closes ∷ sends (i.ResultLower (record { 0 = 0 }) 3) ∷ []
 unfolding lower_code made shapes types of_kind id
 result_lowered = refl
 
-result_lifted : lift_code types (id 0)
+result_lifted : steps (lift_code types (id 0))
     ≡ opens ∷ sends_casts (bitcast.Sequence Pointer I32 F32 ∷ []) ∷ sends i.F32FromCoreF32 ∷ closes ∷ opens ∷ sends i.StringLift ∷ closes ∷ sends (i.ResultLift (record { 0 = 0 })) ∷ []
 unfolding lift_code made shapes types of_kind id
 result_lifted = refl
 
 -- a block within a block
-option_lifted : lift_code types (id 1)
+option_lifted : steps (lift_code types (id 1))
     ≡ opens ∷ closes
     ∷ opens ∷ opens ∷ sends_casts (bitcast.Sequence Pointer I32 F32 ∷ []) ∷ sends i.F32FromCoreF32 ∷ closes ∷ opens ∷ sends i.StringLift ∷ closes ∷ sends (i.ResultLift (record { 0 = 0 })) ∷ closes
     ∷ sends (i.OptionLift (record { 0 = 1 })) ∷ []
 unfolding lift_code made shapes types of_kind id
 option_lifted = refl
 
-variant_lowered : lower_code types true (id 2)
+variant_lowered : steps (lower_code types true (id 2))
     ≡ opens ∷ sends (i.I32Const (pos 0)) ∷ sends_zeros (I32 ∷ []) ∷ closes ∷ opens ∷ sends i.VariantPayloadName ∷ sends (i.I32Const (pos 1)) ∷ sends i.I32FromU8 ∷ closes
     ∷ sends (i.VariantLower (record { 0 = 2 }) 2) ∷ []
 unfolding lower_code made shapes types of_kind id

@@ -13,6 +13,7 @@ use Rattle.wrapper_meaning.specs.Shape.{shapes}
 use Rattle.abi_bindgen.specs.declared.instruction.Instruction.TheVariants as i
 use Rattle.abi_bindgen.specs.Code.{free_code, load_code, made, store_code}
 use Rattle.abi_bindgen.specs.Sent.{Sent, closes, opens, sends}
+use Rattle.abi_driver.proofs.Instances.Steps.{steps}
 
 of_kind : TypeDefKind → TypeDef
 of_kind k = record { name = None; owner = owner.None; kind = k; docs = record { contents = None } }
@@ -36,27 +37,27 @@ text_stored : List Sent
 text_stored =
     opens ∷ sends i.VariantPayloadName ∷ sends (i.I32Const (pos 1)) ∷ sends (i.I32Store8 (place 8 0)) ∷ sends (i.StringLower true) ∷ sends (i.LengthStore (place 8 2)) ∷ sends (i.PointerStore (place 8 1)) ∷ closes ∷ []
 
-stored : store_code types true (wit.Id (id 0)) (place 8 0) ≡ bare_stored ++ text_stored ++ sends (i.OptionLower (id 0) 0) ∷ []
+stored : steps (store_code types true (wit.Id (id 0)) (place 8 0)) ≡ bare_stored ++ text_stored ++ sends (i.OptionLower (id 0) 0) ∷ []
 unfolding store_code made trees types of_kind id place bare_stored text_stored
 stored = refl
 
-loaded : load_code types (wit.Id (id 0)) (place 8 0)
+loaded : steps (load_code types (wit.Id (id 0)) (place 8 0))
     ≡ sends (i.I32Load8U (place 8 0)) ∷ opens ∷ closes ∷ opens ∷ sends (i.PointerLoad (place 8 1)) ∷ sends (i.LengthLoad (place 8 2)) ∷ sends i.StringLift ∷ closes ∷ sends (i.OptionLift (id 0)) ∷ []
 unfolding load_code made trees types of_kind id place
 loaded = refl
 
-freed : free_code types (wit.Id (id 0)) (place 8 0)
+freed : steps (free_code types (wit.Id (id 0)) (place 8 0))
     ≡ sends (i.I32Load8U (place 8 0)) ∷ opens ∷ closes ∷ opens ∷ sends (i.PointerLoad (place 8 1)) ∷ sends (i.LengthLoad (place 8 2)) ∷ sends i.GuestDeallocateString ∷ closes ∷ sends (i.GuestDeallocateVariant 2) ∷ []
 unfolding free_code made trees shapes types of_kind id place
 freed = refl
 
 -- 2. A result with a number of eight bytes, or nothing: its place is behind eight bytes, and it is freed by no code
 
-number_stored : store_code types true (wit.Id (id 1)) (place 0 0)
+number_stored : steps (store_code types true (wit.Id (id 1)) (place 0 0))
     ≡ opens ∷ sends i.VariantPayloadName ∷ sends (i.I32Const (pos 0)) ∷ sends (i.I32Store8 (place 0 0)) ∷ sends i.I64FromU64 ∷ sends (i.I64Store (place 8 0)) ∷ closes ∷ opens ∷ sends (i.I32Const (pos 1)) ∷ sends (i.I32Store8 (place 0 0)) ∷ closes ∷ sends (i.ResultLower (id 1) 0) ∷ []
 unfolding store_code made trees types of_kind id place
 number_stored = refl
 
-number_freed : free_code types (wit.Id (id 1)) (place 0 0) ≡ []
+number_freed : steps (free_code types (wit.Id (id 1)) (place 0 0)) ≡ []
 unfolding free_code made trees shapes types of_kind id place
 number_freed = refl

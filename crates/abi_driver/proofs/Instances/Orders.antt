@@ -21,6 +21,7 @@ use Rattle.abi_bindgen.specs.declared.instruction.Instruction.{Instruction}
 use Rattle.abi_bindgen.specs.declared.instruction.Instruction.TheVariants as i
 use Rattle.abi_bindgen.specs.Code.{call_code, free_code, free_types_code, free_words_code, lift_code, load_code, lower_code, made, post_return_code, store_code}
 use Rattle.abi_bindgen.specs.Sent.{Sent, asks, sends}
+use Rattle.abi_driver.proofs.Instances.Steps.{steps}
 
 -- 1. A table
 
@@ -57,17 +58,17 @@ ask size align = asks (record { size = size; align = align }) ∷ []
 
 -- 2. A record in a record
 
-lowered : lower_code types false (id 1) ≡ all (i.RecordLower (record { 0 = 1 }) ∷ i.I32FromU16 ∷ i.RecordLower (record { 0 = 0 }) ∷ i.I32FromU8 ∷ i.StringLower false ∷ i.CoreF64FromF64 ∷ [])
+lowered : steps (lower_code types false (id 1)) ≡ all (i.RecordLower (record { 0 = 1 }) ∷ i.I32FromU16 ∷ i.RecordLower (record { 0 = 0 }) ∷ i.I32FromU8 ∷ i.StringLower false ∷ i.CoreF64FromF64 ∷ [])
 unfolding lower_code made types record_of of_kind id all
 lowered = refl
 
 -- by its other name
-lifted : lift_code types (id 3) ≡ all (i.U16FromI32 ∷ i.U8FromI32 ∷ i.StringLift ∷ i.RecordLift (record { 0 = 0 }) ∷ i.F64FromCoreF64 ∷ i.RecordLift (record { 0 = 1 }) ∷ [])
+lifted : steps (lift_code types (id 3)) ≡ all (i.U16FromI32 ∷ i.U8FromI32 ∷ i.StringLift ∷ i.RecordLift (record { 0 = 0 }) ∷ i.F64FromCoreF64 ∷ i.RecordLift (record { 0 = 1 }) ∷ [])
 unfolding lift_code made types record_of of_kind id all
 lifted = refl
 
 -- eight bytes behind the address: the number of eight bytes stands a pointer, and the three of the record, further on
-stored : store_code types true (id 1) (place 8 0) ≡ all (
+stored : steps (store_code types true (id 1) (place 8 0)) ≡ all (
     i.RecordLower (record { 0 = 1 }) ∷ i.I32FromU16 ∷ i.I32Store16 (place 8 0)
     ∷ i.RecordLower (record { 0 = 0 }) ∷ i.I32FromU8 ∷ i.I32Store8 (place 8 1)
     ∷ i.StringLower true ∷ i.LengthStore (place 8 3) ∷ i.PointerStore (place 8 2)
@@ -75,25 +76,25 @@ stored : store_code types true (id 1) (place 8 0) ≡ all (
 unfolding store_code made trees types record_of of_kind id all place
 stored = refl
 
-loaded : load_code types (id 1) (place 0 0) ≡ all (
+loaded : steps (load_code types (id 1) (place 0 0)) ≡ all (
     i.I32Load16U (place 0 0) ∷ i.U16FromI32
     ∷ i.I32Load8U (place 0 1) ∷ i.U8FromI32 ∷ i.PointerLoad (place 0 2) ∷ i.LengthLoad (place 0 3) ∷ i.StringLift ∷ i.RecordLift (record { 0 = 0 })
     ∷ i.F64Load (place 0 4) ∷ i.F64FromCoreF64 ∷ i.RecordLift (record { 0 = 1 }) ∷ [])
 unfolding load_code made trees types record_of of_kind id all place
 loaded = refl
 
-freed : free_code types (id 1) (place 0 0) ≡ all (i.PointerLoad (place 0 2) ∷ i.LengthLoad (place 0 3) ∷ i.GuestDeallocateString ∷ [])
+freed : steps (free_code types (id 1) (place 0 0)) ≡ all (i.PointerLoad (place 0 2) ∷ i.LengthLoad (place 0 3) ∷ i.GuestDeallocateString ∷ [])
 unfolding free_code made trees types record_of of_kind id all place
 freed = refl
 
 -- behind a byte, which has nothing to free
-freed_behind : free_types_code types true (wit.U8 ∷ id 1 ∷ []) ≡ all (i.PointerLoad (place 8 2) ∷ i.LengthLoad (place 8 3) ∷ i.GuestDeallocateString ∷ [])
+freed_behind : steps (free_types_code types true (wit.U8 ∷ id 1 ∷ [])) ≡ all (i.PointerLoad (place 8 2) ∷ i.LengthLoad (place 8 3) ∷ i.GuestDeallocateString ∷ [])
 unfolding free_code made trees types record_of of_kind id all place
 freed_behind = refl
 
 -- 3. A tuple of texts
 
-words_freed : free_words_code types (id 2) ≡ all (i.GuestDeallocateString ∷ i.GuestDeallocateString ∷ [])
+words_freed : steps (free_words_code types (id 2)) ≡ all (i.GuestDeallocateString ∷ i.GuestDeallocateString ∷ [])
 unfolding free_words_code made types record_of of_kind id all
 words_freed = refl
 
@@ -116,11 +117,11 @@ function params result = record {
 short : Bor Function
 short = function (wit.U32 ∷ wit.String ∷ []) (Some wit.U8)
 
-short_import : call_code types GuestImport short ≡ all (i.GetArg 0 ∷ i.I32FromU32 ∷ i.GetArg 1 ∷ i.StringLower false ∷ i.CallWasm short ∷ i.U8FromI32 ∷ i.Return 1 ∷ [])
+short_import : steps (call_code types GuestImport short) ≡ all (i.GetArg 0 ∷ i.I32FromU32 ∷ i.GetArg 1 ∷ i.StringLower false ∷ i.CallWasm short ∷ i.U8FromI32 ∷ i.Return 1 ∷ [])
 unfolding lower_code lift_code made shapes types record_of of_kind id all short function
 short_import = refl
 
-short_export : call_code types GuestExport short ≡ all (i.GetArg 0 ∷ i.U32FromI32 ∷ i.GetArg 1 ∷ i.GetArg 2 ∷ i.StringLift ∷ i.CallInterface short ∷ i.I32FromU8 ∷ i.Return 1 ∷ [])
+short_export : steps (call_code types GuestExport short) ≡ all (i.GetArg 0 ∷ i.U32FromI32 ∷ i.GetArg 1 ∷ i.GetArg 2 ∷ i.StringLift ∷ i.CallInterface short ∷ i.I32FromU8 ∷ i.Return 1 ∷ [])
 unfolding lower_code lift_code made shapes trees types record_of of_kind id all short function
 short_export = refl
 
@@ -128,11 +129,11 @@ short_export = refl
 bare : Bor Function
 bare = function [] None
 
-bare_import : call_code types GuestImport bare ≡ all (i.CallWasm bare ∷ i.Return 0 ∷ [])
+bare_import : steps (call_code types GuestImport bare) ≡ all (i.CallWasm bare ∷ i.Return 0 ∷ [])
 unfolding shapes types record_of of_kind id all bare function
 bare_import = refl
 
-bare_export : call_code types GuestExport bare ≡ all (i.CallInterface bare ∷ i.Return 0 ∷ [])
+bare_export : steps (call_code types GuestExport bare) ≡ all (i.CallInterface bare ∷ i.Return 0 ∷ [])
 unfolding shapes types record_of of_kind id all bare function
 bare_export = refl
 
@@ -140,25 +141,25 @@ bare_export = refl
 records : Bor Function
 records = function (id 1 ∷ wit.String ∷ []) (Some (id 2))
 
-records_import : call_code types GuestImport records ≡
+records_import : steps (call_code types GuestImport records) ≡
     all (i.GetArg 0 ∷ i.RecordLower (record { 0 = 1 }) ∷ i.I32FromU16 ∷ i.RecordLower (record { 0 = 0 }) ∷ i.I32FromU8 ∷ i.StringLower false ∷ i.CoreF64FromF64 ∷ i.GetArg 1 ∷ i.StringLower false ∷ [])
     ++ ask (place 0 4) Pointer ++ all (i.CallWasm records ∷ texts_loaded ++ i.Return 1 ∷ [])
 unfolding lower_code load_code made shapes trees types record_of of_kind id all ask place records function texts_loaded
 records_import = refl
 
 -- the words of the first argument are read and lifted before those of the second
-records_export : call_code types GuestExport records ≡
+records_export : steps (call_code types GuestExport records) ≡
     all (i.GetArg 0 ∷ i.GetArg 1 ∷ i.GetArg 2 ∷ i.GetArg 3 ∷ i.GetArg 4 ∷ i.U16FromI32 ∷ i.U8FromI32 ∷ i.StringLift ∷ i.RecordLift (record { 0 = 0 }) ∷ i.F64FromCoreF64 ∷ i.RecordLift (record { 0 = 1 }) ∷ [])
     ++ all (i.GetArg 5 ∷ i.GetArg 6 ∷ i.StringLift ∷ i.CallInterface records ∷ []) ++ ask (place 0 4) Pointer ++ all (texts_stored ++ i.Return 1 ∷ [])
 unfolding lift_code store_code made shapes trees types record_of of_kind id all ask place records function texts_stored
 records_export = refl
 
-records_post_return : post_return_code types (records.now.result) ≡
+records_post_return : steps (post_return_code types (records.now.result)) ≡
     all (i.GetArg 0 ∷ i.PointerLoad (place 0 0) ∷ i.LengthLoad (place 0 1) ∷ i.GuestDeallocateString ∷ i.PointerLoad (place 0 2) ∷ i.LengthLoad (place 0 3) ∷ i.GuestDeallocateString ∷ i.Return 0 ∷ [])
 unfolding free_code made trees types record_of of_kind id all place records function
 records_post_return = refl
 
-bare_post_return : post_return_code types (bare.now.result) ≡ all (i.Return 0 ∷ [])
+bare_post_return : steps (post_return_code types (bare.now.result)) ≡ all (i.Return 0 ∷ [])
 unfolding all bare function
 bare_post_return = refl
 
@@ -179,25 +180,25 @@ text_stored : List Instruction
 text_stored = i.StringLower true ∷ i.LengthStore (place 0 1) ∷ i.PointerStore (place 0 0) ∷ []
 
 -- sixteen are words
-sixteen_import : call_code types GuestImport (numbers 16) ≡
+sixteen_import : steps (call_code types GuestImport (numbers 16)) ≡
     all (for_each (λ n. i.GetArg n ∷ i.I32FromU32 ∷ []) 0 16) ++ ask (place 0 2) Pointer ++ all (i.CallWasm (numbers 16) ∷ text_loaded ++ i.Return 1 ∷ [])
 unfolding lower_code load_code made shapes types record_of of_kind id all ask place numbers function for_each text_loaded
 sixteen_import = refl
 
-sixteen_export : call_code types GuestExport (numbers 16) ≡
+sixteen_export : steps (call_code types GuestExport (numbers 16)) ≡
     all (for_each (λ n. i.GetArg n ∷ i.U32FromI32 ∷ []) 0 16 ++ i.CallInterface (numbers 16) ∷ []) ++ ask (place 0 2) Pointer ++ all (text_stored ++ i.Return 1 ∷ [])
 unfolding lift_code store_code made shapes trees types record_of of_kind id all ask place numbers function for_each text_stored
 sixteen_export = refl
 
 -- seventeen are a record of 68 bytes: that of an import stands in the area
-seventeen_import : call_code types GuestImport (numbers 17) ≡
+seventeen_import : steps (call_code types GuestImport (numbers 17)) ≡
     ask (place 68 0) (Bytes 4) ++ all (for_each (λ n. i.GetArg n ∷ i.I32FromU32 ∷ i.I32Store (place (4 * n) 0) ∷ []) 0 17)
     ++ ask (place 0 2) Pointer ++ all (i.CallWasm (numbers 17) ∷ text_loaded ++ i.Return 1 ∷ [])
 unfolding store_code load_code made shapes types record_of of_kind id all ask place numbers function for_each text_loaded
 seventeen_import = refl
 
 -- and that of an export is freed when it was read
-seventeen_export : call_code types GuestExport (numbers 17) ≡
+seventeen_export : steps (call_code types GuestExport (numbers 17)) ≡
     all (i.GetArg 0 ∷ for_each (λ n. i.I32Load (place (4 * n) 0) ∷ i.U32FromI32 ∷ []) 0 17 ++ i.Flush 17 ∷ i.GetArg 0 ∷ i.GuestDeallocate (place 68 0) (Bytes 4) ∷ i.CallInterface (numbers 17) ∷ [])
     ++ ask (place 0 2) Pointer ++ all (text_stored ++ i.Return 1 ∷ [])
 unfolding store_code load_code made shapes trees types record_of of_kind id all ask place numbers function for_each text_stored
@@ -206,6 +207,6 @@ seventeen_export = refl
 -- 6. A wrong order is refused
 
 -- the words of both arguments, before the first value is made
-words_first : call_code types GuestExport short ≡ all (i.GetArg 0 ∷ i.GetArg 1 ∷ i.GetArg 2 ∷ i.U32FromI32 ∷ i.StringLift ∷ i.CallInterface short ∷ i.I32FromU8 ∷ i.Return 1 ∷ []) → ⊥
+words_first : steps (call_code types GuestExport short) ≡ all (i.GetArg 0 ∷ i.GetArg 1 ∷ i.GetArg 2 ∷ i.U32FromI32 ∷ i.StringLift ∷ i.CallInterface short ∷ i.I32FromU8 ∷ i.Return 1 ∷ []) → ⊥
 unfolding lower_code lift_code made shapes trees types record_of of_kind id all short function
 words_first h = let e = h in cc

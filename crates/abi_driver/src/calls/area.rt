@@ -1,6 +1,6 @@
 //! Records that pass by the return area.
 
-ghost use Rattle.std.specs.Prelude.{◌≡◌, ◌<◌, ◌^◌, ◌++◌, [], IsTrue, true, length, IfOk, OnOk};
+ghost use Rattle.std.specs.Prelude.{◌≡◌, ◌<◌, ◌^◌, [], ◌∷◌, IsTrue, true, length, IfOk, OnOk};
 ghost use Rattle.std.specs.List.{list_all};
 ghost use Rattle.wit_model.specs.WellFormed.{IsWellFormed};
 ghost use Rattle.wit_model.specs.TypeOrder.{GoesDown, type_below};
@@ -11,7 +11,8 @@ ghost use Rattle.abi_bindgen.specs.Code.{ask_for};
 ghost use Rattle.abi_driver.specs.Imports.{PassesRecord, Points};
 ghost use Rattle.abi_bindgen.specs.Instructions.{shapes_of};
 ghost use Rattle.abi_bindgen.specs.Laws.{IsCount};
-ghost use Rattle.abi_bindgen.specs.Sends.{Sends};
+ghost use Rattle.abi_bindgen.specs.Flow.{both, same, ◌>>>◌};
+ghost use Rattle.abi_bindgen.specs.Flows.{Flows};
 ghost use Rattle.abi_bindgen.specs.Served.{ServesAll};
 ghost use Rattle.abi_bindgen.specs.Written.{WritesEach};
 ghost use Rattle.abi_driver.specs.Low.{IsSmallRecord};
@@ -33,7 +34,7 @@ pub(super) fn point_at<B: Bindgen>(
     requires knows { B.meaning.knows bindgen.old resolve.now.types }
     requires closed { B.meaning.opened bindgen.old ≡ [] }
     ensures points { IfOk result (λ o. Points B.meaning (shape_of resolve.now.types ty) o bindgen.old bindgen.new) }
-    ensures sends { OnOk result (Sends B.meaning resolve.now.types (ask_for (shape_of resolve.now.types ty)) bindgen.old bindgen.new) }
+    ensures flows { IfOk result (λ o. Flows B.meaning resolve.now.types (ask_for (shape_of resolve.now.types ty)) [] (o ∷ []) bindgen.old bindgen.new) }
 {
     let sizes = bindgen.sizes();
     let size = sizes.size(&ty);
@@ -53,7 +54,7 @@ fn point_at_record<B: Bindgen>(
     requires small { IsSmallRecord resolve.now.types tys.now }
     requires closed { B.meaning.opened bindgen.old ≡ [] }
     ensures points { IfOk result (λ o. Points B.meaning (fields (shapes_of resolve.now.types tys.now)) o bindgen.old bindgen.new) }
-    ensures sends { OnOk result (Sends B.meaning resolve.now.types (ask_for (fields (shapes_of resolve.now.types tys.now))) bindgen.old bindgen.new) }
+    ensures flows { IfOk result (λ o. Flows B.meaning resolve.now.types (ask_for (fields (shapes_of resolve.now.types tys.now))) [] (o ∷ []) bindgen.old bindgen.new) }
 {
     let sizes = bindgen.sizes();
     let (size, align) = sizes.record_of(tys);
@@ -80,7 +81,7 @@ pub(super) fn store_arguments<B: Bindgen>(
     requires few { length tys.now < 2 ^ 32 }
     requires closed { B.meaning.opened bindgen.old ≡ [] }
     ensures passes { IfOk result (λ o. PassesRecord B.meaning (shapes_of resolve.now.types tys.now) o bindgen.old bindgen.new) }
-    ensures sends { OnOk result (Sends B.meaning resolve.now.types (ask_for (fields (shapes_of resolve.now.types tys.now)) ++ code.store_arguments resolve.now.types tys.now) bindgen.old bindgen.new) }
+    ensures flows { IfOk result (λ o. Flows B.meaning resolve.now.types (ask_for (fields (shapes_of resolve.now.types tys.now)) >>> both (code.store_arguments resolve.now.types tys.now) same) [] (o ∷ []) bindgen.old bindgen.new) }
 {
     let address = point_at_record(resolve, bindgen, tys)?;
     store_at(alloc, resolve, bindgen, tys, &address)?;
@@ -106,7 +107,7 @@ fn store_at<B: Bindgen>(
     requires small { IsSmallRecord resolve.now.types tys.now }
     requires few { length tys.now < 2 ^ 32 }
     ensures stores { OnOk result (StoresArguments B.meaning (shapes_of resolve.now.types tys.now) 0 address.now 0 bindgen.old bindgen.new) }
-    ensures sends { OnOk result (Sends B.meaning resolve.now.types (code.store_arguments resolve.now.types tys.now) bindgen.old bindgen.new) }
+    ensures flows { OnOk result (Flows B.meaning resolve.now.types (code.store_arguments resolve.now.types tys.now) (address.now ∷ []) [] bindgen.old bindgen.new) }
 {
     let sizes = bindgen.sizes();
     let places = record_places(alloc, sizes, tys)?;

@@ -10,12 +10,11 @@ ghost use Rattle.wrapper_meaning.specs.Represents.{are_indirect, is_indirect, pa
 ghost use Rattle.wrapper_meaning.specs.Shape.{param_shapes, result_shape, shape_of};
 ghost use Rattle.abi_bindgen.specs.Code as code;
 ghost use Rattle.abi_bindgen.specs.Code.{
-  ask_for,
   export_code,
   get_arguments,
   give_code,
   lower_code,
-  store_code,
+  store_answer_code,
   take_code,
 };
 ghost use Rattle.abi_driver.specs.Exports.{
@@ -32,7 +31,7 @@ ghost use Rattle.abi_bindgen.specs.Instructions.{shapes_of};
 ghost use Rattle.abi_bindgen.specs.Laws.{IsCount, IsFresh};
 ghost use Rattle.abi_bindgen.specs.Lifts.{LiftsArguments};
 ghost use Rattle.abi_bindgen.specs.Lowers.{LowersAnswer};
-ghost use Rattle.abi_bindgen.specs.Sends.{Sends};
+ghost use Rattle.abi_bindgen.specs.Flows.{Flows};
 ghost use Rattle.abi_bindgen.specs.Served.{Serves, ServesAll, ServesFunction, ServesResult};
 ghost use Rattle.abi_bindgen.specs.WordCount.{word_count};
 ghost use Rattle.abi_bindgen.specs.Written.{Writes, WritesEach, WritesFunction, WritesPart};
@@ -65,7 +64,7 @@ pub(super) fn call_export<B: Bindgen>(
     requires small { IsSmallRecord resolve.now.types (map (λ p. p.ty) func.now.params) }
     requires fresh { IsFresh B.meaning bindgen.old }
     ensures calls { OnOk result (CallsExport B.meaning func.now (param_shapes resolve.now.types func.now) (result_shape resolve.now.types func.now) bindgen.old bindgen.new) }
-    ensures sends { OnOk result (Sends B.meaning resolve.now.types (export_code resolve.now.types func.entry) bindgen.old bindgen.new) }
+    ensures flows { OnOk result (Flows B.meaning resolve.now.types (export_code resolve.now.types func.entry) [] [] bindgen.old bindgen.new) }
 {
     let signature = wasm_signature(resolve, AbiVariant::GuestExport, func);
     let indirect = signature.indirect_params;
@@ -116,7 +115,7 @@ fn take_arguments<B: Bindgen>(
     requires small { IsSmallRecord resolve.now.types tys.now }
     requires few { length tys.now < 2 ^ 32 }
     ensures takes { IfOk result (λ values. TakesArgumentsOver B.meaning (shapes_of resolve.now.types tys.now) values bindgen.old bindgen.new) }
-    ensures sends { OnOk result (Sends B.meaning resolve.now.types (take_code resolve.now.types tys.now) bindgen.old bindgen.new) }
+    ensures flows { IfOk result (λ values. Flows B.meaning resolve.now.types (take_code resolve.now.types tys.now) [] values bindgen.old bindgen.new) }
 {
     if indirect {
         let loaded = load_arguments(alloc, resolve, bindgen, tys)?;
@@ -140,7 +139,7 @@ fn lift_arguments<B: Bindgen>(
     requires serves { ServesAll (shapes_of resolve.now.types tys.now) }
     requires writes { WritesEach B.meaning resolve.now.types tys.now bindgen.old }
     ensures lifts { IfOk result (λ values. LiftsArguments B.meaning (shapes_of resolve.now.types tys.now) 0 values bindgen.old bindgen.new) }
-    ensures sends { OnOk result (Sends B.meaning resolve.now.types (code.lift_arguments resolve.now.types 0 tys.now) bindgen.old bindgen.new) }
+    ensures flows { IfOk result (λ values. Flows B.meaning resolve.now.types (code.lift_arguments resolve.now.types 0 tys.now) [] values bindgen.old bindgen.new) }
 {
     let mut values = List::new(alloc);
     let mut first = 0;
@@ -166,7 +165,7 @@ fn read_words<B: Bindgen>(
     requires few { first + count ≤ 16 }
     requires arguments { IfSome (B.meaning.arguments bindgen.old) (λ k. first + count ≤ k) }
     ensures reads { IfOk result (λ words. ReadsWords B.meaning first count words bindgen.old bindgen.new) }
-    ensures sends { IfOk result (λ words. Sends B.meaning resolve.now.types (get_arguments first words) bindgen.old bindgen.new) }
+    ensures flows { IfOk result (λ words. Flows B.meaning resolve.now.types (get_arguments first words) [] words bindgen.old bindgen.new) }
 {
     let mut words = List::new(alloc);
     for i in 0..count {
@@ -197,7 +196,7 @@ fn give_answer<B: Bindgen>(
     requires writes { WritesPart B.meaning resolve.now.types ty bindgen.old }
     requires closed { B.meaning.opened bindgen.old ≡ [] }
     ensures gives { IfOk result (λ given. GivesAnswer B.meaning (option_map (shape_of resolve.now.types) ty) answer.now given bindgen.old bindgen.new) }
-    ensures sends { OnOk result (Sends B.meaning resolve.now.types (give_code resolve.now.types ty) bindgen.old bindgen.new) }
+    ensures flows { IfOk result (λ given. Flows B.meaning resolve.now.types (give_code resolve.now.types ty) answer.now given bindgen.old bindgen.new) }
 {
     match ty {
         None => Ok(List::new(alloc)),
@@ -223,7 +222,7 @@ fn lower_answer<B: Bindgen>(
     requires writes { Writes B.meaning resolve.now.types ty bindgen.old }
     requires few { word_count resolve.now.types ty ≤ 16 }
     ensures lowers { IfOk result (λ given. LowersAnswer B.meaning (Some (shape_of resolve.now.types ty)) answer.now given bindgen.old bindgen.new) }
-    ensures sends { OnOk result (Sends B.meaning resolve.now.types (lower_code resolve.now.types true ty) bindgen.old bindgen.new) }
+    ensures flows { IfOk result (λ given. Flows B.meaning resolve.now.types (lower_code resolve.now.types true ty) answer.now given bindgen.old bindgen.new) }
 {
     let value = answer[0].copy(alloc)?;
     let words = lower_flat(alloc, resolve, bindgen, value, &ty, true)?;
@@ -248,7 +247,7 @@ fn store_answer<B: Bindgen>(
     requires writes { Writes B.meaning resolve.now.types ty bindgen.old }
     requires closed { B.meaning.opened bindgen.old ≡ [] }
     ensures stores { IfOk result (λ given. StoresAnswer B.meaning (shape_of resolve.now.types ty) answer.now given bindgen.old bindgen.new) }
-    ensures sends { OnOk result (Sends B.meaning resolve.now.types (ask_for (shape_of resolve.now.types ty) ++ store_code resolve.now.types true ty nowhere) bindgen.old bindgen.new) }
+    ensures flows { IfOk result (λ given. Flows B.meaning resolve.now.types (store_answer_code resolve.now.types ty) answer.now given bindgen.old bindgen.new) }
 {
     let address = point_at(resolve, bindgen, ty)?;
     let value = answer[0].copy(alloc)?;

@@ -22,7 +22,7 @@ ghost use Rattle.abi_bindgen.specs.Instructions.{shapes_of};
 ghost use Rattle.abi_bindgen.specs.Laws.{IsCount};
 ghost use Rattle.abi_bindgen.specs.Lifts.{LiftsAnswer};
 ghost use Rattle.abi_bindgen.specs.Lowers.{LowersArguments};
-ghost use Rattle.abi_bindgen.specs.Sends.{Sends};
+ghost use Rattle.abi_bindgen.specs.Flows.{Flows};
 ghost use Rattle.abi_bindgen.specs.Served.{Serves, ServesAll, ServesFunction, ServesResult};
 ghost use Rattle.abi_bindgen.specs.WordCount.{word_count};
 ghost use Rattle.abi_bindgen.specs.Written.{Writes, WritesEach, WritesFunction, WritesPart};
@@ -55,7 +55,7 @@ pub(super) fn call_import<B: Bindgen>(
     requires small { IsSmallRecord resolve.now.types (map (λ p. p.ty) func.now.params) }
     requires closed { B.meaning.opened bindgen.old ≡ [] }
     ensures calls { OnOk result (CallsImport B.meaning func.now (param_shapes resolve.now.types func.now) (result_shape resolve.now.types func.now) bindgen.old bindgen.new) }
-    ensures sends { OnOk result (Sends B.meaning resolve.now.types (import_code resolve.now.types func.entry) bindgen.old bindgen.new) }
+    ensures flows { OnOk result (Flows B.meaning resolve.now.types (import_code resolve.now.types func.entry) [] [] bindgen.old bindgen.new) }
 {
     let signature = wasm_signature(resolve, AbiVariant::GuestImport, func);
     let indirect = signature.indirect_params;
@@ -110,7 +110,7 @@ fn pass_arguments<B: Bindgen>(
     requires few { length tys.now < 2 ^ 32 }
     requires closed { B.meaning.opened bindgen.old ≡ [] }
     ensures passes { IfOk result (λ os. PassesArguments B.meaning (shapes_of resolve.now.types tys.now) os bindgen.old bindgen.new) }
-    ensures sends { OnOk result (Sends B.meaning resolve.now.types (pass_code resolve.now.types tys.now) bindgen.old bindgen.new) }
+    ensures flows { IfOk result (λ os. Flows B.meaning resolve.now.types (pass_code resolve.now.types tys.now) [] os bindgen.old bindgen.new) }
 {
     if indirect {
         let address = store_arguments(alloc, resolve, bindgen, tys)?;
@@ -138,7 +138,7 @@ fn lower_arguments<B: Bindgen>(
     requires few { length tys.now < 2 ^ 32 }
     requires direct { are_indirect (shapes_of resolve.now.types tys.now) ≡ false }
     ensures lowers { IfOk result (λ os. LowersArguments B.meaning false (shapes_of resolve.now.types tys.now) 0 os bindgen.old bindgen.new) }
-    ensures sends { OnOk result (Sends B.meaning resolve.now.types (code.lower_arguments resolve.now.types tys.now) bindgen.old bindgen.new) }
+    ensures flows { IfOk result (λ os. Flows B.meaning resolve.now.types (code.lower_arguments resolve.now.types tys.now) [] os bindgen.old bindgen.new) }
 {
     let mut all = Vec::new(alloc);
     for i in 0..tys.len() {
@@ -163,7 +163,7 @@ fn point_at_result<B: Bindgen>(
     requires retptr { retptr ≡ is_indirect (option_map (shape_of resolve.now.types) ty) }
     requires closed { B.meaning.opened bindgen.old ≡ [] }
     ensures points { IfOk result (λ pointer. PointsAtResult B.meaning (option_map (shape_of resolve.now.types) ty) pointer bindgen.old bindgen.new) }
-    ensures sends { OnOk result (Sends B.meaning resolve.now.types (point_code resolve.now.types ty) bindgen.old bindgen.new) }
+    ensures flows { IfOk result (λ pointer. Flows B.meaning resolve.now.types (point_code resolve.now.types ty) [] pointer bindgen.old bindgen.new) }
 {
     match ty {
         Some(ty) if retptr => {
@@ -191,11 +191,13 @@ fn read_answer<B: Bindgen>(
     requires knows { B.meaning.knows bindgen.old resolve.now.types }
     requires retptr { retptr ≡ is_indirect (option_map (shape_of resolve.now.types) ty) }
     requires pointed { retptr ≡ true → length pointer.now ≡ 1 }
+    requires unpointed { retptr ≡ false → pointer.now ≡ [] }
+    requires unanswered { retptr ≡ true → words.now ≡ [] }
     requires answered { retptr ≡ false → length words.now ≡ length (result_words (option_map (shape_of resolve.now.types) ty)) }
     requires serves { ServesResult (option_map (shape_of resolve.now.types) ty) }
     requires writes { WritesPart B.meaning resolve.now.types ty bindgen.old }
     ensures reads { IfOk result (λ given. ReadsAnswer B.meaning (option_map (shape_of resolve.now.types) ty) pointer.now words.now given bindgen.old bindgen.new) }
-    ensures sends { OnOk result (Sends B.meaning resolve.now.types (read_code resolve.now.types ty) bindgen.old bindgen.new) }
+    ensures flows { IfOk result (λ given. Flows B.meaning resolve.now.types (read_code resolve.now.types ty) (words.now ++ pointer.now) given bindgen.old bindgen.new) }
 {
     match ty {
         None => Ok(List::new(alloc)),
@@ -220,7 +222,7 @@ fn load_answer<B: Bindgen>(
     requires serves { Serves (shape_of resolve.now.types ty) }
     requires writes { Writes B.meaning resolve.now.types ty bindgen.old }
     ensures loads { IfOk result (λ given. LoadsAnswer B.meaning (shape_of resolve.now.types ty) pointer.now given bindgen.old bindgen.new) }
-    ensures sends { OnOk result (Sends B.meaning resolve.now.types (load_code resolve.now.types ty nowhere) bindgen.old bindgen.new) }
+    ensures flows { IfOk result (λ given. Flows B.meaning resolve.now.types (load_code resolve.now.types ty nowhere) pointer.now given bindgen.old bindgen.new) }
 {
     let address = pointer[0].copy(alloc)?;
     let value = lift_from_memory(alloc, resolve, bindgen, address, &ty)?;
@@ -243,7 +245,7 @@ fn lift_answer<B: Bindgen>(
     requires serves { Serves (shape_of resolve.now.types ty) }
     requires writes { Writes B.meaning resolve.now.types ty bindgen.old }
     ensures lifts { IfOk result (λ given. LiftsAnswer B.meaning (Some (shape_of resolve.now.types ty)) words.now given bindgen.old bindgen.new) }
-    ensures sends { OnOk result (Sends B.meaning resolve.now.types (lift_code resolve.now.types ty) bindgen.old bindgen.new) }
+    ensures flows { IfOk result (λ given. Flows B.meaning resolve.now.types (lift_code resolve.now.types ty) words.now given bindgen.old bindgen.new) }
 {
     let value = lift_flat(alloc, resolve, bindgen, words, &ty)?;
     only(alloc, value)

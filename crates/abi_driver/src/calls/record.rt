@@ -1,6 +1,6 @@
 //! The arguments of an export, where they stand in a record whose address is the one argument.
 
-ghost use Rattle.std.specs.Prelude.{◌≡◌, ◌<◌, ◌^◌, true, length, IfOk, OnOk, IfSome};
+ghost use Rattle.std.specs.Prelude.{◌≡◌, ◌<◌, ◌^◌, [], ◌∷◌, true, length, IfOk, OnOk, IfSome};
 ghost use Rattle.std.specs.List.{list_all};
 ghost use Rattle.wit_model.specs.WellFormed.{IsWellFormed};
 ghost use Rattle.wit_model.specs.TypeOrder.{GoesDown, type_below};
@@ -11,7 +11,7 @@ ghost use Rattle.abi_driver.specs.Exports.{FreesArguments, TakesRecordOver};
 ghost use Rattle.abi_bindgen.specs.Frees.{nowhere};
 ghost use Rattle.abi_bindgen.specs.Instructions.{shapes_of};
 ghost use Rattle.abi_driver.specs.Loads.{LoadsParts};
-ghost use Rattle.abi_bindgen.specs.Sends.{Sends};
+ghost use Rattle.abi_bindgen.specs.Flows.{Flows};
 ghost use Rattle.abi_bindgen.specs.Served.{ServesAll};
 ghost use Rattle.abi_bindgen.specs.Written.{WritesEach};
 ghost use Rattle.abi_driver.specs.Low.{IsSmallRecord};
@@ -39,7 +39,7 @@ pub(super) fn load_arguments<B: Bindgen>(
     requires small { IsSmallRecord resolve.now.types tys.now }
     requires few { length tys.now < 2 ^ 32 }
     ensures takes { IfOk result (λ values. TakesRecordOver B.meaning resolve.now.types (shapes_of resolve.now.types tys.now) values bindgen.old bindgen.new) }
-    ensures sends { OnOk result (Sends B.meaning resolve.now.types (take_record_code resolve.now.types tys.now) bindgen.old bindgen.new) }
+    ensures flows { IfOk result (λ values. Flows B.meaning resolve.now.types (take_record_code resolve.now.types tys.now) [] values bindgen.old bindgen.new) }
 {
     let address = argument(alloc, resolve, bindgen, 0)?;
     let parts = load_at(alloc, resolve, bindgen, tys, &address)?;
@@ -66,7 +66,7 @@ fn load_at<B: Bindgen>(
     requires small { IsSmallRecord resolve.now.types tys.now }
     ensures count { IfOk result (λ parts. length parts ≡ length tys.now) }
     ensures loads { IfOk result (λ parts. LoadsParts B.meaning (shapes_of resolve.now.types tys.now) address.now nowhere 0 parts bindgen.old bindgen.new) }
-    ensures sends { OnOk result (Sends B.meaning resolve.now.types (code.load_arguments resolve.now.types tys.now) bindgen.old bindgen.new) }
+    ensures flows { IfOk result (λ parts. Flows B.meaning resolve.now.types (code.load_arguments resolve.now.types tys.now) (address.now ∷ []) parts bindgen.old bindgen.new) }
 {
     let sizes = bindgen.sizes();
     let places = record_places(alloc, sizes, tys)?;
@@ -91,7 +91,7 @@ fn free_arguments<B: Bindgen>(
     requires arguments { IfSome (B.meaning.arguments bindgen.old) (λ k. 0 < k) }
     requires small { IsSmallRecord resolve.now.types tys.now }
     ensures frees { OnOk result (FreesArguments B.meaning resolve.now.types (shapes_of resolve.now.types tys.now) bindgen.old bindgen.new) }
-    ensures sends { OnOk result (Sends B.meaning resolve.now.types (free_block_code (fields (shapes_of resolve.now.types tys.now))) bindgen.old bindgen.new) }
+    ensures flows { OnOk result (Flows B.meaning resolve.now.types (free_block_code (fields (shapes_of resolve.now.types tys.now))) [] [] bindgen.old bindgen.new) }
 {
     let sizes = bindgen.sizes();
     let (size, align) = sizes.record_of(tys);

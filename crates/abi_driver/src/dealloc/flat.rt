@@ -1,16 +1,16 @@
 //! The blocks of values that core words represent are freed.
 
-ghost use Rattle.std.specs.Prelude.{◌≡◌, ◌<◌, ◌≤◌, ◌+◌, ◌∷◌, ◌++◌, IsTrue, List, true, drop, length, IfOk, OnOk};
+ghost use Rattle.std.specs.Prelude.{◌≡◌, ◌<◌, ◌≤◌, ◌+◌, ◌++◌, [], IsTrue, List, true, false, drop, take, length, IfOk, OnOk};
 ghost use Rattle.std.specs.List.{list_all};
 ghost use Rattle.wit_model.specs.TypeOrder.{GoesDown, type_below};
 ghost use Rattle.wit_model.specs.WellFormed.{IsWellFormed};
 ghost use Rattle.wit_model.specs.declared.types.WitType.TheVariants.{Id, String};
 ghost use Rattle.wrapper_meaning.specs.Shape.{shape_at, shape_of};
 ghost use Rattle.wrapper_meaning.specs.Shape.Shape.{text};
-ghost use Rattle.abi_bindgen.specs.Code.{each, free_words_code};
+ghost use Rattle.abi_bindgen.specs.Code.{free_types_code, free_words_code};
 ghost use Rattle.abi_bindgen.specs.Frees.{FreesAll, FreesFlat};
 ghost use Rattle.abi_bindgen.specs.Instructions.{shapes_of};
-ghost use Rattle.abi_bindgen.specs.Sends.{Sends};
+ghost use Rattle.abi_bindgen.specs.Flows.{Flows};
 ghost use Rattle.abi_bindgen.specs.Served.{AreFreedByWords, IsFreedByWords, Serves, ServesAll};
 ghost use Rattle.abi_bindgen.specs.WordCount.{word_count, word_counts};
 
@@ -37,7 +37,7 @@ pub(super) fn free_words<B: Bindgen>(
     requires few { length words.now ≤ 16 }
     requires exact { length words.now ≡ word_counts resolve.now.types types.now }
     ensures frees { OnOk result (FreesAll B.meaning (shapes_of resolve.now.types types.now) words.now bindgen.old bindgen.new) }
-    ensures sends { OnOk result (Sends B.meaning resolve.now.types (each (λ n ty. free_words_code resolve.now.types ty) 0 types.now) bindgen.old bindgen.new) }
+    ensures flows { OnOk result (Flows B.meaning resolve.now.types (free_types_code resolve.now.types false types.now) words.now [] bindgen.old bindgen.new) }
 {
     let count = resolve.types.len();
     free_parts(alloc, resolve, bindgen, words, 0, count, types)?;
@@ -65,7 +65,7 @@ fn free_type<B: Bindgen>(
     ensures next { IfOk result (λ next. next ≡ at + word_count resolve.now.types ty) }
     ensures frees { IfOk result (λ next. (used : List B.Operand) × (drop at words.now ≡ used ++ drop next words.now)
         × FreesFlat B.meaning (shape_of resolve.now.types ty) used bindgen.old bindgen.new) }
-    ensures sends { OnOk result (Sends B.meaning resolve.now.types (free_words_code resolve.now.types ty) bindgen.old bindgen.new) }
+    ensures flows { OnOk result (Flows B.meaning resolve.now.types (free_words_code resolve.now.types ty) (take (word_count resolve.now.types ty) (drop at words.now)) [] bindgen.old bindgen.new) }
 {
     if let Some(_lift) = scalar_lifting(ty) {
         return Ok(at + 1);
@@ -100,7 +100,7 @@ fn free_id<B: Bindgen>(
     ensures next { IfOk result (λ next. next ≡ at + word_count resolve.now.types (Id id)) }
     ensures frees { IfOk result (λ next. (used : List B.Operand) × (drop at words.now ≡ used ++ drop next words.now)
         × FreesFlat B.meaning (shape_at resolve.now.types id.0) used bindgen.old bindgen.new) }
-    ensures sends { OnOk result (Sends B.meaning resolve.now.types (free_words_code resolve.now.types (Id id)) bindgen.old bindgen.new) }
+    ensures flows { OnOk result (Flows B.meaning resolve.now.types (free_words_code resolve.now.types (Id id)) (take (word_count resolve.now.types (Id id)) (drop at words.now)) [] bindgen.old bindgen.new) }
 {
     let types = resolve.types.as_slice();
     let place = id.0 as usize;
@@ -153,7 +153,7 @@ fn free_parts<B: Bindgen>(
     ensures next { IfOk result (λ next. next ≡ at + word_counts resolve.now.types tys.now) }
     ensures frees { IfOk result (λ next. (used : List B.Operand) × (drop at words.now ≡ used ++ drop next words.now)
         × FreesAll B.meaning (shapes_of resolve.now.types tys.now) used bindgen.old bindgen.new) }
-    ensures sends { OnOk result (Sends B.meaning resolve.now.types (each (λ n ty. free_words_code resolve.now.types ty) 0 tys.now) bindgen.old bindgen.new) }
+    ensures flows { OnOk result (Flows B.meaning resolve.now.types (free_types_code resolve.now.types false tys.now) (take (word_counts resolve.now.types tys.now) (drop at words.now)) [] bindgen.old bindgen.new) }
 {
     let mut next = at;
     for i in 0..tys.len() {
@@ -174,7 +174,7 @@ fn free_text<B: Bindgen>(
     ensures next { IfOk result (λ next. next ≡ at + 2) }
     ensures frees { IfOk result (λ next. (used : List B.Operand) × (drop at words.now ≡ used ++ drop next words.now)
         × FreesFlat B.meaning text used bindgen.old bindgen.new) }
-    ensures sends { OnOk result (Sends B.meaning resolve.now.types (free_words_code resolve.now.types String) bindgen.old bindgen.new) }
+    ensures flows { OnOk result (Flows B.meaning resolve.now.types (free_words_code resolve.now.types String) (take 2 (drop at words.now)) [] bindgen.old bindgen.new) }
 {
     let address = words[at].copy(alloc)?;
     let length = words[at + 1].copy(alloc)?;

@@ -1,21 +1,21 @@
 //! The blocks of values in memory are freed.
 
-ghost use Rattle.std.specs.Prelude.{◌≡◌, ◌<◌, ◌∷◌, ◌++◌, [], IsTrue, true, length, option_map, OnOk};
+ghost use Rattle.std.specs.Prelude.{◌≡◌, ◌<◌, ◌∷◌, [], IsTrue, true, length, option_map, OnOk};
 ghost use Rattle.std.specs.List.{list_all};
 ghost use Rattle.wit_model.specs.TypeOrder.{GoesDown, payload_below, type_below};
 ghost use Rattle.wit_model.specs.declared.types.WitType.TheVariants.{Id, String};
 ghost use Rattle.wit_layout.specs.Tree.{record_of, tree_at};
 ghost use Rattle.wrapper_meaning.specs.Shape.{payload_in, payloads_in, shape_at, shape_of, shapes};
 ghost use Rattle.wrapper_meaning.specs.Shape.Shape.{text};
-ghost use Rattle.abi_bindgen.specs.Code.{at_payload, beyond, each, free_code, in_blocks, place_in};
+ghost use Rattle.abi_bindgen.specs.Code.{at_payload, beyond, blocks_of_cases, free_code, free_types_code, place_in};
 ghost use Rattle.abi_driver.specs.FreedCases.{FreesCases, FreesPayload};
 ghost use Rattle.abi_bindgen.specs.Frees.{FreesInMemory, FreesParts, nowhere};
 ghost use Rattle.abi_bindgen.specs.HasList.{IsKindOf};
 ghost use Rattle.abi_bindgen.specs.Instructions.{has_cases, shapes_of};
 ghost use Rattle.abi_bindgen.specs.Places.{HasParts};
-ghost use Rattle.abi_bindgen.specs.Sends.{Sends};
+ghost use Rattle.abi_bindgen.specs.Flow.{each, in_block};
+ghost use Rattle.abi_bindgen.specs.Flows.{Flows};
 ghost use Rattle.abi_bindgen.specs.Served.{Serves, ServesAll};
-ghost use Rattle.abi_bindgen.specs.Sent.{closes, opens};
 ghost use Rattle.abi_driver.specs.Low.{EachEndsLow, EndsLow, IsSmallRecord};
 
 use crate::dealloc::places::record_places;
@@ -43,7 +43,7 @@ pub(super) fn free_record<B: Bindgen>(
     requires serves { ServesAll (shapes_of resolve.now.types types.now) }
     requires small { IsSmallRecord resolve.now.types types.now }
     ensures frees { OnOk result (FreesParts B.meaning (shapes_of resolve.now.types types.now) address.now nowhere 0 bindgen.old bindgen.new) }
-    ensures sends { OnOk result (Sends B.meaning resolve.now.types (each (λ n ty. free_code resolve.now.types ty (place_in (record_of resolve.now.types types.now) n)) 0 types.now) bindgen.old bindgen.new) }
+    ensures flows { OnOk result (Flows B.meaning resolve.now.types (free_types_code resolve.now.types true types.now) (address.now ∷ []) [] bindgen.old bindgen.new) }
 {
     let places = record_places(alloc, bindgen.sizes(), types)?;
     for i in 0..types.len() {
@@ -70,7 +70,7 @@ pub(crate) fn free_type<B: Bindgen>(
     requires serves { Serves (shape_of resolve.now.types ty) }
     requires low { EndsLow (shape_of resolve.now.types ty) offset }
     ensures frees { OnOk result (FreesInMemory B.meaning (shape_of resolve.now.types ty) address.now offset bindgen.old bindgen.new) }
-    ensures sends { OnOk result (Sends B.meaning resolve.now.types (free_code resolve.now.types ty offset) bindgen.old bindgen.new) }
+    ensures flows { OnOk result (Flows B.meaning resolve.now.types (free_code resolve.now.types ty offset) (address.now ∷ []) [] bindgen.old bindgen.new) }
 {
     if let Some(_lift) = scalar_lifting(ty) {
         return Ok(());
@@ -98,7 +98,7 @@ fn free_id<B: Bindgen>(
     requires serves { Serves (shape_at resolve.now.types id.0) }
     requires low { EndsLow (shape_at resolve.now.types id.0) offset }
     ensures frees { OnOk result (FreesInMemory B.meaning (shape_at resolve.now.types id.0) address.now offset bindgen.old bindgen.new) }
-    ensures sends { OnOk result (Sends B.meaning resolve.now.types (free_code resolve.now.types (Id id) offset) bindgen.old bindgen.new) }
+    ensures flows { OnOk result (Flows B.meaning resolve.now.types (free_code resolve.now.types (Id id) offset) (address.now ∷ []) [] bindgen.old bindgen.new) }
 {
     let types = resolve.types.as_slice();
     let at = id.0 as usize;
@@ -149,7 +149,7 @@ fn free_variant<B: Bindgen>(
     requires serves { Serves (shape_at resolve.now.types id.0) }
     requires low { EndsLow (shape_at resolve.now.types id.0) offset }
     ensures frees { OnOk result (FreesInMemory B.meaning (shape_at resolve.now.types id.0) address.now offset bindgen.old bindgen.new) }
-    ensures sends { OnOk result (Sends B.meaning resolve.now.types (free_code resolve.now.types (Id id) offset) bindgen.old bindgen.new) }
+    ensures flows { OnOk result (Flows B.meaning resolve.now.types (free_code resolve.now.types (Id id) offset) (address.now ∷ []) [] bindgen.old bindgen.new) }
 {
     if !id_has_list(resolve, id) {
         return Ok(());
@@ -182,7 +182,7 @@ fn free_cases<B: Bindgen>(
     requires serves { ServesAll (payloads_in (shapes resolve.now.types) payloads.now) }
     requires low { EachEndsLow (payloads_in (shapes resolve.now.types) payloads.now) place }
     ensures frees { OnOk result (FreesCases B.meaning (payloads_in (shapes resolve.now.types) payloads.now) address.now place bindgen.old bindgen.new) }
-    ensures sends { OnOk result (Sends B.meaning resolve.now.types (in_blocks (λ n p. at_payload place (option_map (free_code resolve.now.types) p)) 0 payloads.now) bindgen.old bindgen.new) }
+    ensures flows { OnOk result (Flows B.meaning resolve.now.types (blocks_of_cases 1 (λ n part. at_payload place part) (free_code resolve.now.types) payloads.now) (address.now ∷ []) [] bindgen.old bindgen.new) }
 {
     for i in 0..payloads.len() {
         free_case(alloc, resolve, bindgen, address, place, id, payloads[i])?;
@@ -208,7 +208,7 @@ fn free_case<B: Bindgen>(
     requires serves { Serves (payload_in (shapes resolve.now.types) payload) }
     requires low { EndsLow (payload_in (shapes resolve.now.types) payload) place }
     ensures frees { OnOk result (FreesPayload B.meaning (payload_in (shapes resolve.now.types) payload) address.now place bindgen.old bindgen.new) }
-    ensures sends { OnOk result (Sends B.meaning resolve.now.types (opens ∷ at_payload place (option_map (free_code resolve.now.types) payload) ++ closes ∷ []) bindgen.old bindgen.new) }
+    ensures flows { OnOk result (Flows B.meaning resolve.now.types (in_block (at_payload place (option_map (λ ty. (ty, free_code resolve.now.types ty)) payload))) (address.now ∷ []) [] bindgen.old bindgen.new) }
 {
     match payload {
         None => {
@@ -240,7 +240,7 @@ fn free_payload<B: Bindgen>(
     requires serves { Serves (shape_of resolve.now.types ty) }
     requires low { EndsLow (shape_of resolve.now.types ty) place }
     ensures frees { OnOk result (FreesPayload B.meaning (shape_of resolve.now.types ty) address.now place bindgen.old bindgen.new) }
-    ensures sends { OnOk result (Sends B.meaning resolve.now.types (opens ∷ free_code resolve.now.types ty place ++ closes ∷ []) bindgen.old bindgen.new) }
+    ensures flows { OnOk result (Flows B.meaning resolve.now.types (in_block (free_code resolve.now.types ty place)) (address.now ∷ []) [] bindgen.old bindgen.new) }
 {
     bindgen.push_block()?;
     free_type(alloc, resolve, bindgen, address, place, ty)?;
@@ -267,7 +267,7 @@ fn free_parts<B: Bindgen>(
     requires serves { ServesAll (shapes_of resolve.now.types tys.now) }
     requires low { EndsLow (shape_at resolve.now.types id.0) offset }
     ensures frees { OnOk result (FreesParts B.meaning (shapes_of resolve.now.types tys.now) address.now offset 0 bindgen.old bindgen.new) }
-    ensures sends { OnOk result (Sends B.meaning resolve.now.types (each (λ n ty. free_code resolve.now.types ty (beyond offset (place_in (tree_at resolve.now.types id.0) n))) 0 tys.now) bindgen.old bindgen.new) }
+    ensures flows { OnOk result (Flows B.meaning resolve.now.types (each 1 (λ ty. 0) (λ n ty. free_code resolve.now.types ty (beyond offset (place_in (tree_at resolve.now.types id.0) n))) 0 tys.now) (address.now ∷ []) [] bindgen.old bindgen.new) }
 {
     for i in 0..tys.len() {
         let place = part_place(bindgen, id, i, offset);
@@ -286,7 +286,7 @@ fn free_text<B: Bindgen>(
 ) -> Result<(), OutOfMemory>
     requires low { EndsLow text offset }
     ensures frees { OnOk result (FreesInMemory B.meaning text address.now offset bindgen.old bindgen.new) }
-    ensures sends { OnOk result (Sends B.meaning resolve.now.types (free_code resolve.now.types String offset) bindgen.old bindgen.new) }
+    ensures flows { OnOk result (Flows B.meaning resolve.now.types (free_code resolve.now.types String offset) (address.now ∷ []) [] bindgen.old bindgen.new) }
 {
     let behind = behind_pointer(offset);
     let place = load_word(

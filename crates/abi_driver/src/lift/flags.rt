@@ -1,6 +1,6 @@
 //! Words become a value of flags.
 
-ghost use Rattle.std.specs.Prelude.{◌≡◌, ◌≤◌, ◌+◌, ◌++◌, length, List, drop, IfOk, OnOk};
+ghost use Rattle.std.specs.Prelude.{◌≡◌, ◌≤◌, ◌+◌, ◌++◌, [], ◌∷◌, length, List, drop, take, IfOk, OnOk};
 ghost use Rattle.wit_model.specs.TypeOrder.{GoesDown};
 ghost use Rattle.wit_model.specs.declared.types.TypeDefKind.TheVariants as kind;
 ghost use Rattle.wit_model.specs.declared.types.WitType.TheVariants.{Id};
@@ -9,7 +9,7 @@ ghost use Rattle.wrapper_meaning.specs.Shape.{shape_at};
 ghost use Rattle.abi_bindgen.specs.Code.{lift_code};
 ghost use Rattle.abi_bindgen.specs.HasList.{IsKindOf};
 ghost use Rattle.abi_bindgen.specs.Lifts.{LiftsFlat};
-ghost use Rattle.abi_bindgen.specs.Sends.{Sends};
+ghost use Rattle.abi_bindgen.specs.Flows.{Flows};
 ghost use Rattle.abi_bindgen.specs.Written.{Writes};
 
 use crate::lift::Lifted;
@@ -42,7 +42,7 @@ pub(crate) fn lift_flags<B: Bindgen>(
     ensures next { IfOk result (λ r. r.next ≡ at + flag_words (length members.now)) }
     ensures lifts { IfOk result (λ r. (used : List B.Operand) × (drop at words.now ≡ used ++ drop r.next words.now)
         × LiftsFlat B.meaning (shape_at resolve.now.types id.0) used r.operand bindgen.old bindgen.new) }
-    ensures sends { OnOk result (Sends B.meaning resolve.now.types (lift_code resolve.now.types (Id id)) bindgen.old bindgen.new) }
+    ensures flows { IfOk result (λ r. Flows B.meaning resolve.now.types (lift_code resolve.now.types (Id id)) (take (flag_words (length members.now)) (drop at words.now)) (r.operand ∷ []) bindgen.old bindgen.new) }
 {
     let next = at + flag_words(members.len());
     let mut used = Vec::new(alloc);

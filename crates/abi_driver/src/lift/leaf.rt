@@ -1,13 +1,13 @@
 //! What one instruction lifts.
 
-ghost use Rattle.std.specs.Prelude.{◌≡◌, ◌≤◌, ◌<◌, ◌+◌, ◌++◌, length, List, Some, drop, IfOk, OnOk};
+ghost use Rattle.std.specs.Prelude.{◌≡◌, ◌≤◌, ◌<◌, ◌+◌, ◌++◌, [], ◌∷◌, length, List, Some, drop, take, IfOk, OnOk};
 ghost use Rattle.wit_model.specs.declared.types.WitType.TheVariants.{String};
 ghost use Rattle.wrapper_meaning.specs.Shape.{shape_of};
 ghost use Rattle.wrapper_meaning.specs.Shape.Shape.{text};
 ghost use Rattle.abi_bindgen.specs.Code.{lift_code};
 ghost use Rattle.abi_bindgen.specs.Instructions.{lifting};
 ghost use Rattle.abi_bindgen.specs.Lifts.{LiftsFlat};
-ghost use Rattle.abi_bindgen.specs.Sends.{Sends};
+ghost use Rattle.abi_bindgen.specs.Flows.{Flows};
 
 use crate::lift::Lifted;
 use abi_bindgen::{Bindgen, Instruction, Operand, only, send_one};
@@ -50,7 +50,7 @@ pub(crate) fn lift_scalar<B: Bindgen>(
     ensures next { IfOk result (λ r. r.next ≡ at + 1) }
     ensures lifts { IfOk result (λ r. (used : List B.Operand) × (drop at words.now ≡ used ++ drop r.next words.now)
         × LiftsFlat B.meaning (shape_of resolve.now.types ty) used r.operand bindgen.old bindgen.new) }
-    ensures sends { OnOk result (Sends B.meaning resolve.now.types (lift_code resolve.now.types ty) bindgen.old bindgen.new) }
+    ensures flows { IfOk result (λ r. Flows B.meaning resolve.now.types (lift_code resolve.now.types ty) (take 1 (drop at words.now)) (r.operand ∷ []) bindgen.old bindgen.new) }
 {
     let word = words[at].copy(alloc)?;
     let operands = only(alloc, word)?;
@@ -73,7 +73,7 @@ pub(crate) fn lift_text<B: Bindgen>(
     ensures next { IfOk result (λ r. r.next ≡ at + 2) }
     ensures lifts { IfOk result (λ r. (used : List B.Operand) × (drop at words.now ≡ used ++ drop r.next words.now)
         × LiftsFlat B.meaning text used r.operand bindgen.old bindgen.new) }
-    ensures sends { OnOk result (Sends B.meaning resolve.now.types (lift_code resolve.now.types String) bindgen.old bindgen.new) }
+    ensures flows { IfOk result (λ r. Flows B.meaning resolve.now.types (lift_code resolve.now.types String) (take 2 (drop at words.now)) (r.operand ∷ []) bindgen.old bindgen.new) }
 {
     let address = words[at].copy(alloc)?;
     let length = words[at + 1].copy(alloc)?;

@@ -8,8 +8,8 @@ ghost use Rattle.wrapper_meaning.specs.Shape.Shapes.{none, more};
 ghost use Rattle.abi_bindgen.specs.Blocks.{Finishes, IsOpen};
 ghost use Rattle.abi_bindgen.specs.CaseBlocks.{LiftsCases};
 ghost use Rattle.abi_bindgen.specs.Instructions.{case_lifting};
-ghost use Rattle.abi_bindgen.specs.Sends.{Sends};
-ghost use Rattle.abi_bindgen.specs.Sent.{closes, opens};
+ghost use Rattle.abi_bindgen.specs.Flow.{in_block, leave_none};
+ghost use Rattle.abi_bindgen.specs.Flows.{Flows};
 
 use abi_bindgen::{Bindgen, Instruction, only};
 use std::alloc::Global;
@@ -43,7 +43,7 @@ pub(crate) fn close_payload<B: Bindgen>(
 /// The block of a case without payload, which gives nothing.
 pub(crate) fn lift_bare<B: Bindgen>(alloc: Global, bindgen: &mut B) -> Result<(), OutOfMemory>
     ensures lifts { OnOk result ((slots : List CoreType) (os : List B.Operand) → LiftsCases B.meaning (more nothing none) (0 ∷ []) slots os bindgen.old bindgen.new) }
-    ensures sends { OnOk result ((types : List TypeDef) → Sends B.meaning types (opens ∷ closes ∷ []) bindgen.old bindgen.new) }
+    ensures flows { OnOk result ((types : List TypeDef) (reads : List B.Operand) → Flows B.meaning types (in_block leave_none) reads [] bindgen.old bindgen.new) }
 {
     bindgen.push_block()?;
     let mut results = List::new(alloc);

@@ -1,6 +1,6 @@
 //! Enums are put into memory, and read from it.
 
-ghost use Rattle.std.specs.Prelude.{◌≡◌, ◌≤◌, ◌^◌, Bool, length, IfOk, OnOk};
+ghost use Rattle.std.specs.Prelude.{◌≡◌, ◌≤◌, ◌^◌, [], ◌∷◌, Bool, length, IfOk, OnOk};
 ghost use Rattle.wit_model.specs.TypeOrder.{GoesDown};
 ghost use Rattle.wit_model.specs.declared.types.TypeDefKind.TheVariants as kind;
 ghost use Rattle.wit_model.specs.declared.types.WitType.TheVariants.{Id};
@@ -8,7 +8,7 @@ ghost use Rattle.wrapper_meaning.specs.Shape.{shape_at};
 ghost use Rattle.abi_bindgen.specs.Code.{load_code, store_code};
 ghost use Rattle.abi_bindgen.specs.HasList.{IsKindOf};
 ghost use Rattle.abi_driver.specs.Loads.{LiftsFromMemory};
-ghost use Rattle.abi_bindgen.specs.Sends.{Sends};
+ghost use Rattle.abi_bindgen.specs.Flows.{Flows};
 ghost use Rattle.abi_driver.specs.Stores.{LowersToMemory};
 ghost use Rattle.abi_bindgen.specs.Written.{Writes};
 
@@ -32,7 +32,7 @@ pub(super) fn store_enum<B: Bindgen>(
     requires here { IsKindOf resolve.now.types id.0 (kind.Enum members.now) }
     requires most { length members.now ≤ 2 ^ 31 }
     ensures stores { (realloc : Bool) → OnOk result (LowersToMemory B.meaning realloc (shape_at resolve.now.types id.0) value address.now offset bindgen.old bindgen.new) }
-    ensures sends { (realloc : Bool) → OnOk result (Sends B.meaning resolve.now.types (store_code resolve.now.types realloc (Id id) offset) bindgen.old bindgen.new) }
+    ensures flows { (realloc : Bool) → OnOk result (Flows B.meaning resolve.now.types (store_code resolve.now.types realloc (Id id) offset) (address.now ∷ value ∷ []) [] bindgen.old bindgen.new) }
 {
     let cases = members.len();
     let store = tag_store(cases, offset);
@@ -56,7 +56,7 @@ pub(super) fn load_enum<B: Bindgen>(
     requires here { IsKindOf resolve.now.types id.0 (kind.Enum members.now) }
     requires writes { Writes B.meaning resolve.now.types (Id id) bindgen.old }
     ensures loads { IfOk result (λ r. LiftsFromMemory B.meaning (shape_at resolve.now.types id.0) address.now offset r bindgen.old bindgen.new) }
-    ensures sends { OnOk result (Sends B.meaning resolve.now.types (load_code resolve.now.types (Id id) offset) bindgen.old bindgen.new) }
+    ensures flows { IfOk result (λ r. Flows B.meaning resolve.now.types (load_code resolve.now.types (Id id) offset) (address.now ∷ []) (r ∷ []) bindgen.old bindgen.new) }
 {
     let cases = members.len();
     let load = tag_load(cases, offset);

@@ -1,6 +1,6 @@
 //! Flags are put into memory, and read from it.
 
-ghost use Rattle.std.specs.Prelude.{◌≡◌, Bool, IfOk, OnOk};
+ghost use Rattle.std.specs.Prelude.{◌≡◌, [], ◌∷◌, Bool, IfOk, OnOk};
 ghost use Rattle.wit_model.specs.TypeOrder.{GoesDown};
 ghost use Rattle.wit_model.specs.declared.types.TypeDefKind.TheVariants as kind;
 ghost use Rattle.wit_model.specs.declared.types.WitType.TheVariants.{Id};
@@ -9,7 +9,7 @@ ghost use Rattle.wrapper_meaning.specs.Shape.{shape_at};
 ghost use Rattle.abi_bindgen.specs.Code.{load_code, store_code};
 ghost use Rattle.abi_bindgen.specs.HasList.{IsKindOf};
 ghost use Rattle.abi_driver.specs.Loads.{LiftsFromMemory};
-ghost use Rattle.abi_bindgen.specs.Sends.{Sends};
+ghost use Rattle.abi_bindgen.specs.Flows.{Flows};
 ghost use Rattle.abi_driver.specs.Low.{EndsLow};
 ghost use Rattle.abi_driver.specs.Stores.{LowersToMemory};
 ghost use Rattle.abi_bindgen.specs.Written.{Writes};
@@ -50,7 +50,7 @@ pub(super) fn store_flags<B: Bindgen>(
     requires writes { Writes B.meaning resolve.now.types (Id id) bindgen.old }
     requires low { EndsLow (shape_at resolve.now.types id.0) offset }
     ensures stores { (realloc : Bool) → OnOk result (LowersToMemory B.meaning realloc (shape_at resolve.now.types id.0) value address.now offset bindgen.old bindgen.new) }
-    ensures sends { (realloc : Bool) → OnOk result (Sends B.meaning resolve.now.types (store_code resolve.now.types realloc (Id id) offset) bindgen.old bindgen.new) }
+    ensures flows { (realloc : Bool) → OnOk result (Flows B.meaning resolve.now.types (store_code resolve.now.types realloc (Id id) offset) (address.now ∷ value ∷ []) [] bindgen.old bindgen.new) }
 {
     let grain = flags_grain(members.len());
     let words = lower_by(alloc, resolve, bindgen, value, Instruction::FlagsLower(id))?;
@@ -81,7 +81,7 @@ pub(super) fn load_flags<B: Bindgen>(
     requires writes { Writes B.meaning resolve.now.types (Id id) bindgen.old }
     requires low { EndsLow (shape_at resolve.now.types id.0) offset }
     ensures loads { IfOk result (λ r. LiftsFromMemory B.meaning (shape_at resolve.now.types id.0) address.now offset r bindgen.old bindgen.new) }
-    ensures sends { OnOk result (Sends B.meaning resolve.now.types (load_code resolve.now.types (Id id) offset) bindgen.old bindgen.new) }
+    ensures flows { IfOk result (λ r. Flows B.meaning resolve.now.types (load_code resolve.now.types (Id id) offset) (address.now ∷ []) (r ∷ []) bindgen.old bindgen.new) }
 {
     let flags = members.len();
     let grain = flags_grain(flags);

@@ -1,6 +1,6 @@
 //! Values are read from memory.
 
-ghost use Rattle.std.specs.Prelude.{◌≡◌, ◌<◌, ◌∷◌, ◌++◌, [], IsTrue, true, length, map, option_map, option_to_list, Some, IfOk, OnOk};
+ghost use Rattle.std.specs.Prelude.{◌≡◌, ◌<◌, ◌∷◌, [], IsTrue, true, length, map, option_map, option_to_list, Some, IfOk, OnOk};
 ghost use Rattle.std.specs.List.{AllByRecursion, list_all};
 ghost use Rattle.wit_model.specs.WellFormed.{IsWellFormed};
 ghost use Rattle.wit_model.specs.TypeOrder.{GoesDown, payload_below, type_below};
@@ -8,16 +8,16 @@ ghost use Rattle.wit_model.specs.declared.types.WitType.TheVariants.{Id, String}
 ghost use Rattle.wit_layout.specs.Tree.{tree_at};
 ghost use Rattle.wrapper_meaning.specs.Shape.{payload_in, payloads_in, shape_at, shape_of, shapes};
 ghost use Rattle.wrapper_meaning.specs.Shape.Shape.{text};
-ghost use Rattle.abi_bindgen.specs.Code.{beyond, each, in_blocks, at_payload, load_code, place_in};
+ghost use Rattle.abi_bindgen.specs.Code.{at_payload, beyond, blocks_of_cases, load_code, place_in};
 ghost use Rattle.abi_bindgen.specs.HasList.{IsKindOf};
 ghost use Rattle.abi_bindgen.specs.Instructions.{has_cases, lifting, shapes_of};
 ghost use Rattle.abi_driver.specs.LoadedCases.{LoadsCase, LoadsCases};
 ghost use Rattle.abi_driver.specs.Loads.{LiftsFromMemory, LoadsParts};
 ghost use Rattle.abi_driver.specs.Low.{EachEndsLow, EndsLow};
 ghost use Rattle.abi_bindgen.specs.Places.{HasParts};
-ghost use Rattle.abi_bindgen.specs.Sends.{Sends};
+ghost use Rattle.abi_bindgen.specs.Flow.{each, in_block};
+ghost use Rattle.abi_bindgen.specs.Flows.{Flows};
 ghost use Rattle.abi_bindgen.specs.Served.{Serves, ServesAll};
-ghost use Rattle.abi_bindgen.specs.Sent.{closes, opens};
 ghost use Rattle.abi_bindgen.specs.Written.{Writes, WritesEach, WritesPart};
 
 use crate::lift::leaf::scalar_lifting;
@@ -50,7 +50,7 @@ pub fn lift_from_memory<B: Bindgen>(
     requires serves { Serves (shape_of resolve.now.types ty.now) }
     requires writes { Writes B.meaning resolve.now.types ty.now bindgen.old }
     ensures loads { IfOk result (λ r. LiftsFromMemory B.meaning (shape_of resolve.now.types ty.now) address NOWHERE r bindgen.old bindgen.new) }
-    ensures sends { OnOk result (Sends B.meaning resolve.now.types (load_code resolve.now.types ty.now NOWHERE) bindgen.old bindgen.new) }
+    ensures flows { IfOk result (λ r. Flows B.meaning resolve.now.types (load_code resolve.now.types ty.now NOWHERE) (address ∷ []) (r ∷ []) bindgen.old bindgen.new) }
 {
     let start = start(bindgen);
     load_type(alloc, resolve, bindgen, &address, start, *ty)
@@ -75,7 +75,7 @@ pub(crate) fn load_type<B: Bindgen>(
     requires writes { Writes B.meaning resolve.now.types ty bindgen.old }
     requires low { EndsLow (shape_of resolve.now.types ty) offset }
     ensures loads { IfOk result (λ r. LiftsFromMemory B.meaning (shape_of resolve.now.types ty) address.now offset r bindgen.old bindgen.new) }
-    ensures sends { OnOk result (Sends B.meaning resolve.now.types (load_code resolve.now.types ty offset) bindgen.old bindgen.new) }
+    ensures flows { IfOk result (λ r. Flows B.meaning resolve.now.types (load_code resolve.now.types ty offset) (address.now ∷ []) (r ∷ []) bindgen.old bindgen.new) }
 {
     if let Some(lift) = scalar_lifting(ty) {
         return load_scalar(alloc, resolve, bindgen, address, offset, ty, lift);
@@ -105,7 +105,7 @@ fn load_id<B: Bindgen>(
     requires writes { Writes B.meaning resolve.now.types (Id id) bindgen.old }
     requires low { EndsLow (shape_at resolve.now.types id.0) offset }
     ensures loads { IfOk result (λ r. LiftsFromMemory B.meaning (shape_at resolve.now.types id.0) address.now offset r bindgen.old bindgen.new) }
-    ensures sends { OnOk result (Sends B.meaning resolve.now.types (load_code resolve.now.types (Id id) offset) bindgen.old bindgen.new) }
+    ensures flows { IfOk result (λ r. Flows B.meaning resolve.now.types (load_code resolve.now.types (Id id) offset) (address.now ∷ []) (r ∷ []) bindgen.old bindgen.new) }
 {
     let types = resolve.types.as_slice();
     let at = id.0 as usize;
@@ -161,7 +161,7 @@ fn load_variant<B: Bindgen>(
     requires writes { Writes B.meaning resolve.now.types (Id id) bindgen.old }
     requires low { EndsLow (shape_at resolve.now.types id.0) offset }
     ensures loads { IfOk result (λ r. LiftsFromMemory B.meaning (shape_at resolve.now.types id.0) address.now offset r bindgen.old bindgen.new) }
-    ensures sends { OnOk result (Sends B.meaning resolve.now.types (load_code resolve.now.types (Id id) offset) bindgen.old bindgen.new) }
+    ensures flows { IfOk result (λ r. Flows B.meaning resolve.now.types (load_code resolve.now.types (Id id) offset) (address.now ∷ []) (r ∷ []) bindgen.old bindgen.new) }
 {
     let payloads = case_payloads(alloc, kind)?;
     let lift = case_lifting(kind, id);
@@ -194,7 +194,7 @@ fn load_cases<B: Bindgen>(
     requires writes { AllByRecursion (λ p. WritesPart B.meaning resolve.now.types p bindgen.old) payloads.now }
     requires low { EachEndsLow (payloads_in (shapes resolve.now.types) payloads.now) place }
     ensures loads { OnOk result (LoadsCases B.meaning (map (λ p. length (option_to_list p)) payloads.now) (payloads_in (shapes resolve.now.types) payloads.now) address.now place bindgen.old bindgen.new) }
-    ensures sends { OnOk result (Sends B.meaning resolve.now.types (in_blocks (λ n p. at_payload place (option_map (load_code resolve.now.types) p)) 0 payloads.now) bindgen.old bindgen.new) }
+    ensures flows { OnOk result (Flows B.meaning resolve.now.types (blocks_of_cases 1 (λ n part. at_payload place part) (load_code resolve.now.types) payloads.now) (address.now ∷ []) [] bindgen.old bindgen.new) }
 {
     for i in 0..payloads.len() {
         load_case(alloc, resolve, bindgen, address, place, id, payloads[i])?;
@@ -222,7 +222,7 @@ fn load_case<B: Bindgen>(
     requires writes { WritesPart B.meaning resolve.now.types payload bindgen.old }
     requires low { EndsLow (payload_in (shapes resolve.now.types) payload) place }
     ensures loads { OnOk result (LoadsCase B.meaning (length (option_to_list payload)) (payload_in (shapes resolve.now.types) payload) address.now place bindgen.old bindgen.new) }
-    ensures sends { OnOk result (Sends B.meaning resolve.now.types (opens ∷ at_payload place (option_map (load_code resolve.now.types) payload) ++ closes ∷ []) bindgen.old bindgen.new) }
+    ensures flows { OnOk result (Flows B.meaning resolve.now.types (in_block (at_payload place (option_map (λ ty. (ty, load_code resolve.now.types ty)) payload))) (address.now ∷ []) [] bindgen.old bindgen.new) }
 {
     match payload {
         None => {
@@ -256,7 +256,7 @@ fn load_payload<B: Bindgen>(
     requires writes { Writes B.meaning resolve.now.types ty bindgen.old }
     requires low { EndsLow (shape_of resolve.now.types ty) place }
     ensures loads { OnOk result (LoadsCase B.meaning 1 (shape_of resolve.now.types ty) address.now place bindgen.old bindgen.new) }
-    ensures sends { OnOk result (Sends B.meaning resolve.now.types (opens ∷ load_code resolve.now.types ty place ++ closes ∷ []) bindgen.old bindgen.new) }
+    ensures flows { OnOk result (Flows B.meaning resolve.now.types (in_block (load_code resolve.now.types ty place)) (address.now ∷ []) [] bindgen.old bindgen.new) }
 {
     bindgen.push_block()?;
     let value = load_type(alloc, resolve, bindgen, address, place, ty)?;
@@ -287,7 +287,7 @@ fn load_parts<B: Bindgen>(
     requires low { EndsLow (shape_at resolve.now.types id.0) offset }
     ensures count { IfOk result (λ parts. length parts ≡ length tys.now) }
     ensures loads { IfOk result (λ parts. LoadsParts B.meaning (shapes_of resolve.now.types tys.now) address.now offset 0 parts bindgen.old bindgen.new) }
-    ensures sends { OnOk result (Sends B.meaning resolve.now.types (each (λ n ty. load_code resolve.now.types ty (beyond offset (place_in (tree_at resolve.now.types id.0) n))) 0 tys.now) bindgen.old bindgen.new) }
+    ensures flows { IfOk result (λ parts. Flows B.meaning resolve.now.types (each 1 (λ ty. 0) (λ n ty. load_code resolve.now.types ty (beyond offset (place_in (tree_at resolve.now.types id.0) n))) 0 tys.now) (address.now ∷ []) parts bindgen.old bindgen.new) }
 {
     let mut parts = List::new(alloc);
     for i in 0..tys.len() {
@@ -310,7 +310,7 @@ fn load_scalar<B: Bindgen>(
 ) -> Result<B::Operand, OutOfMemory>
     requires { lifting ty ≡ Some lift }
     ensures loads { IfOk result (λ r. LiftsFromMemory B.meaning (shape_of resolve.now.types ty) address.now offset r bindgen.old bindgen.new) }
-    ensures sends { OnOk result (Sends B.meaning resolve.now.types (load_code resolve.now.types ty offset) bindgen.old bindgen.new) }
+    ensures flows { IfOk result (λ r. Flows B.meaning resolve.now.types (load_code resolve.now.types ty offset) (address.now ∷ []) (r ∷ []) bindgen.old bindgen.new) }
 {
     let Some(load) = scalar_load(ty, offset) else {
         unreachable!()
@@ -331,7 +331,7 @@ fn load_text<B: Bindgen>(
 ) -> Result<B::Operand, OutOfMemory>
     requires low { EndsLow text offset }
     ensures loads { IfOk result (λ r. LiftsFromMemory B.meaning text address.now offset r bindgen.old bindgen.new) }
-    ensures sends { OnOk result (Sends B.meaning resolve.now.types (load_code resolve.now.types String offset) bindgen.old bindgen.new) }
+    ensures flows { IfOk result (λ r. Flows B.meaning resolve.now.types (load_code resolve.now.types String offset) (address.now ∷ []) (r ∷ []) bindgen.old bindgen.new) }
 {
     let behind = behind_pointer(offset);
     let place = load_word(

@@ -1,6 +1,6 @@
 //! Values are put into memory.
 
-ghost use Rattle.std.specs.Prelude.{◌≡◌, ◌<◌, ◌≤◌, ◌^◌, ◌∷◌, ◌++◌, [], Bool, IsTrue, true, length, option_map, Some, OnOk};
+ghost use Rattle.std.specs.Prelude.{◌≡◌, ◌<◌, ◌≤◌, ◌^◌, ◌∷◌, [], Bool, IsTrue, List, true, length, option_map, Some, OnOk};
 ghost use Rattle.std.specs.List.{AllByRecursion, list_all};
 ghost use Rattle.wit_model.specs.WellFormed.{IsWellFormed};
 ghost use Rattle.wit_model.specs.TypeOrder.{GoesDown, payload_below, type_below};
@@ -9,14 +9,14 @@ ghost use Rattle.wit_layout.specs.Extent.{discriminant_grain};
 ghost use Rattle.wit_layout.specs.Tree.{tree_at};
 ghost use Rattle.wrapper_meaning.specs.Shape.{payload_in, payloads_in, shape_at, shape_of, shapes};
 ghost use Rattle.wrapper_meaning.specs.Shape.Shape.{text};
-ghost use Rattle.abi_bindgen.specs.Code.{beyond, each, in_blocks, place_in, store_case, store_code};
+ghost use Rattle.abi_bindgen.specs.Code.{beyond, blocks_of_cases, place_in, store_case, store_code};
 ghost use Rattle.abi_bindgen.specs.HasList.{IsKindOf};
 ghost use Rattle.abi_bindgen.specs.Instructions.{IsSide, has_cases, lowering, shapes_of};
 ghost use Rattle.abi_bindgen.specs.ScalarTouches.{scalar_store};
 ghost use Rattle.abi_bindgen.specs.Places.{HasParts};
-ghost use Rattle.abi_bindgen.specs.Sends.{Sends};
+ghost use Rattle.abi_bindgen.specs.Flow.{each, in_block};
+ghost use Rattle.abi_bindgen.specs.Flows.{Flows};
 ghost use Rattle.abi_bindgen.specs.Served.{Serves, ServesAll};
-ghost use Rattle.abi_bindgen.specs.Sent.{closes, opens};
 ghost use Rattle.abi_bindgen.specs.Written.{Writes, WritesEach, WritesPart};
 ghost use Rattle.abi_driver.specs.Low.{EachEndsLow, EndsLow};
 ghost use Rattle.abi_driver.specs.StoredCases.{StoresCase, StoresCases};
@@ -58,7 +58,7 @@ pub fn lower_to_memory<B: Bindgen>(
     requires serves { Serves (shape_of resolve.now.types ty.now) }
     requires writes { Writes B.meaning resolve.now.types ty.now bindgen.old }
     ensures stores { OnOk result (LowersToMemory B.meaning realloc (shape_of resolve.now.types ty.now) value address NOWHERE bindgen.old bindgen.new) }
-    ensures sends { OnOk result (Sends B.meaning resolve.now.types (store_code resolve.now.types realloc ty.now NOWHERE) bindgen.old bindgen.new) }
+    ensures flows { OnOk result (Flows B.meaning resolve.now.types (store_code resolve.now.types realloc ty.now NOWHERE) (address ∷ value ∷ []) [] bindgen.old bindgen.new) }
 {
     let start = start(bindgen);
     store_type(
@@ -88,7 +88,7 @@ pub(crate) fn store_type<B: Bindgen>(
     requires writes { Writes B.meaning resolve.now.types ty bindgen.old }
     requires low { EndsLow (shape_of resolve.now.types ty) offset }
     ensures stores { OnOk result (LowersToMemory B.meaning realloc (shape_of resolve.now.types ty) value address.now offset bindgen.old bindgen.new) }
-    ensures sends { OnOk result (Sends B.meaning resolve.now.types (store_code resolve.now.types realloc ty offset) bindgen.old bindgen.new) }
+    ensures flows { OnOk result (Flows B.meaning resolve.now.types (store_code resolve.now.types realloc ty offset) (address.now ∷ value ∷ []) [] bindgen.old bindgen.new) }
 {
     if let Some(lower) = scalar_lowering(ty) {
         return store_scalar(alloc, resolve, bindgen, address, offset, value, ty, lower);
@@ -121,7 +121,7 @@ fn store_id<B: Bindgen>(
     requires writes { Writes B.meaning resolve.now.types (Id id) bindgen.old }
     requires low { EndsLow (shape_at resolve.now.types id.0) offset }
     ensures stores { OnOk result (LowersToMemory B.meaning realloc (shape_at resolve.now.types id.0) value address.now offset bindgen.old bindgen.new) }
-    ensures sends { OnOk result (Sends B.meaning resolve.now.types (store_code resolve.now.types realloc (Id id) offset) bindgen.old bindgen.new) }
+    ensures flows { OnOk result (Flows B.meaning resolve.now.types (store_code resolve.now.types realloc (Id id) offset) (address.now ∷ value ∷ []) [] bindgen.old bindgen.new) }
 {
     let types = resolve.types.as_slice();
     let at = id.0 as usize;
@@ -190,7 +190,7 @@ fn store_variant<B: Bindgen>(
     requires writes { Writes B.meaning resolve.now.types (Id id) bindgen.old }
     requires low { EndsLow (shape_at resolve.now.types id.0) offset }
     ensures stores { OnOk result (LowersToMemory B.meaning realloc (shape_at resolve.now.types id.0) value address.now offset bindgen.old bindgen.new) }
-    ensures sends { OnOk result (Sends B.meaning resolve.now.types (store_code resolve.now.types realloc (Id id) offset) bindgen.old bindgen.new) }
+    ensures flows { OnOk result (Flows B.meaning resolve.now.types (store_code resolve.now.types realloc (Id id) offset) (address.now ∷ value ∷ []) [] bindgen.old bindgen.new) }
 {
     let payloads = case_payloads(alloc, kind)?;
     let lower = case_lowering(kind, id, 0);
@@ -227,7 +227,7 @@ fn store_cases<B: Bindgen>(
     requires writes { AllByRecursion (λ p. WritesPart B.meaning resolve.now.types p bindgen.old) payloads.now }
     requires low { EachEndsLow (payloads_in (shapes resolve.now.types) payloads.now) place }
     ensures stores { OnOk result (StoresCases B.meaning realloc (discriminant_grain (length payloads.now)) 0 (payloads_in (shapes resolve.now.types) payloads.now) address.now offset place bindgen.old bindgen.new) }
-    ensures sends { OnOk result (Sends B.meaning resolve.now.types (in_blocks (λ n p. store_case (length payloads.now) offset place n (option_map (store_code resolve.now.types realloc) p)) 0 payloads.now) bindgen.old bindgen.new) }
+    ensures flows { OnOk result ((others : List B.Operand) → Flows B.meaning resolve.now.types (blocks_of_cases 1 (store_case (length payloads.now) offset place) (store_code resolve.now.types realloc) payloads.now) (address.now ∷ others) [] bindgen.old bindgen.new) }
 {
     let count = payloads.len();
     for i in 0..count {
@@ -275,7 +275,7 @@ fn store_case<B: Bindgen>(
     requires writes { WritesPart B.meaning resolve.now.types payload bindgen.old }
     requires low { EndsLow (payload_in (shapes resolve.now.types) payload) place }
     ensures stores { OnOk result (StoresCase B.meaning realloc (discriminant_grain count) number (payload_in (shapes resolve.now.types) payload) address.now offset place bindgen.old bindgen.new) }
-    ensures sends { OnOk result (Sends B.meaning resolve.now.types (opens ∷ store_case count offset place number (option_map (store_code resolve.now.types realloc) payload) ++ closes ∷ []) bindgen.old bindgen.new) }
+    ensures flows { OnOk result (Flows B.meaning resolve.now.types (in_block (store_case count offset place number (option_map (λ ty. (ty, store_code resolve.now.types realloc ty)) payload))) (address.now ∷ []) [] bindgen.old bindgen.new) }
 {
     match payload {
         None => {
@@ -318,7 +318,7 @@ fn store_payload<B: Bindgen>(
     requires writes { Writes B.meaning resolve.now.types ty bindgen.old }
     requires low { EndsLow (shape_of resolve.now.types ty) place }
     ensures stores { OnOk result (StoresCase B.meaning realloc (discriminant_grain count) number (shape_of resolve.now.types ty) address.now offset place bindgen.old bindgen.new) }
-    ensures sends { OnOk result (Sends B.meaning resolve.now.types (opens ∷ store_case count offset place number (Some (store_code resolve.now.types realloc ty)) ++ closes ∷ []) bindgen.old bindgen.new) }
+    ensures flows { OnOk result (Flows B.meaning resolve.now.types (in_block (store_case count offset place number (Some (ty, store_code resolve.now.types realloc ty)))) (address.now ∷ []) [] bindgen.old bindgen.new) }
 {
     bindgen.push_block()?;
     let value = payload(alloc, resolve, bindgen)?;
@@ -353,7 +353,7 @@ fn store_parts<B: Bindgen>(
     requires writes { WritesEach B.meaning resolve.now.types tys.now bindgen.old }
     requires low { EndsLow (shape_at resolve.now.types id.0) offset }
     ensures stores { OnOk result (StoresParts B.meaning realloc (shapes_of resolve.now.types tys.now) parts.now address.now offset 0 bindgen.old bindgen.new) }
-    ensures sends { OnOk result (Sends B.meaning resolve.now.types (each (λ n ty. store_code resolve.now.types realloc ty (beyond offset (place_in (tree_at resolve.now.types id.0) n))) 0 tys.now) bindgen.old bindgen.new) }
+    ensures flows { OnOk result (Flows B.meaning resolve.now.types (each 1 (λ ty. 1) (λ n ty. store_code resolve.now.types realloc ty (beyond offset (place_in (tree_at resolve.now.types id.0) n))) 0 tys.now) (address.now ∷ parts.now) [] bindgen.old bindgen.new) }
 {
     for i in 0..tys.len() {
         let place = part_place(bindgen, id, i, offset);
@@ -378,7 +378,7 @@ fn store_scalar<B: Bindgen>(
 ) -> Result<(), OutOfMemory>
     requires { lowering ty ≡ Some lower }
     ensures stores { (realloc : Bool) → OnOk result (LowersToMemory B.meaning realloc (shape_of resolve.now.types ty) value address.now offset bindgen.old bindgen.new) }
-    ensures sends { (realloc : Bool) → OnOk result (Sends B.meaning resolve.now.types (store_code resolve.now.types realloc ty offset) bindgen.old bindgen.new) }
+    ensures flows { (realloc : Bool) → OnOk result (Flows B.meaning resolve.now.types (store_code resolve.now.types realloc ty offset) (address.now ∷ value ∷ []) [] bindgen.old bindgen.new) }
 {
     let Some(store) = scalar_store(ty, offset) else {
         unreachable!()
@@ -402,7 +402,7 @@ fn store_text<B: Bindgen>(
     requires side { IsSide B.meaning realloc bindgen.old }
     requires low { EndsLow text offset }
     ensures stores { OnOk result (LowersToMemory B.meaning realloc text value address.now offset bindgen.old bindgen.new) }
-    ensures sends { OnOk result (Sends B.meaning resolve.now.types (store_code resolve.now.types realloc String offset) bindgen.old bindgen.new) }
+    ensures flows { OnOk result (Flows B.meaning resolve.now.types (store_code resolve.now.types realloc String offset) (address.now ∷ value ∷ []) [] bindgen.old bindgen.new) }
 {
     let words = lower_by(
         alloc,

@@ -1,6 +1,6 @@
 //! Values with cases are put into memory, and read from it: payloads and tags, and the blocks in which each is treated.
 
-ghost use Rattle.std.specs.Prelude.{◌≡◌, ◌<◌, ◌≤◌, ◌^◌, ◌++◌, Bool, IsTrue, List, [], ◌∷◌, false, true, length, map, pos, slice_get, IfOk, IfSome, OnOk, Some};
+ghost use Rattle.std.specs.Prelude.{◌≡◌, ◌<◌, ◌≤◌, ◌^◌, Bool, IsTrue, List, [], ◌∷◌, false, true, length, map, pos, slice_get, IfOk, IfSome, OnOk, Some};
 ghost use Rattle.wit_model.specs.declared.size.ArchitectureSize.{ArchitectureSize};
 ghost use Rattle.wit_model.specs.declared.types.TypeDef.{TypeDef};
 ghost use Rattle.wit_layout.specs.Extent.{discriminant_grain};
@@ -14,8 +14,8 @@ ghost use Rattle.abi_bindgen.specs.Cases.{payloads_of};
 ghost use Rattle.abi_bindgen.specs.Code.{beyond, store_case};
 ghost use Rattle.abi_bindgen.specs.Instructions.{Emits, has_cases};
 ghost use Rattle.abi_bindgen.specs.NumberTouches.{tag_load, tag_store};
-ghost use Rattle.abi_bindgen.specs.Sends.{Sends};
-ghost use Rattle.abi_bindgen.specs.Sent.{closes, opens};
+ghost use Rattle.abi_bindgen.specs.Flow.{in_block};
+ghost use Rattle.abi_bindgen.specs.Flows.{Flows};
 ghost use Rattle.abi_driver.specs.Low.{HasLowPayload};
 ghost use Rattle.abi_driver.specs.StoredCases.{StoresCase};
 
@@ -143,7 +143,7 @@ pub(super) fn store_bare<B: Bindgen>(
     requires below { number < cases }
     requires most { cases ≤ 2 ^ 31 }
     ensures stores { (realloc : Bool) (place : ArchitectureSize) → OnOk result (StoresCase B.meaning realloc (discriminant_grain cases) number nothing address.now offset place bindgen.old bindgen.new) }
-    ensures sends { (place : ArchitectureSize) → OnOk result (Sends B.meaning resolve.now.types (opens ∷ store_case cases offset place number None ++ closes ∷ []) bindgen.old bindgen.new) }
+    ensures flows { (place : ArchitectureSize) → OnOk result (Flows B.meaning resolve.now.types (in_block (store_case cases offset place number None)) (address.now ∷ []) [] bindgen.old bindgen.new) }
 {
     bindgen.push_block()?;
     store_tag(alloc, resolve, bindgen, address, offset, cases, number)?;

@@ -2,7 +2,7 @@ use Rattle.std.proofs.Common.{◌≡◌, true, false, length, refl, sym, ap, ◌
 use Rattle.std.specs.List.{list_all}
 use Rattle.abi_bindgen.specs.Constants.{AreCasts}
 use Rattle.abi_bindgen.specs.SlotCasts.{casts_between, is_no_cast}
-use Rattle.abi_bindgen.proofs.CastSteps.{casting_sent, casts_sent, no_cast_needed, nothing_cast}
+use Rattle.abi_bindgen.proofs.CastSteps.{casting_flows, casts_sent, no_cast_needed, nothing_cast}
 use Rattle.abi_bindgen.proofs.WordBits.{are_casts, casts_length}
 use Rattle.abi_bindgen.proofs.casts.cast_words.Goals as goal
 
@@ -23,7 +23,7 @@ returns-then-change_nothing g c =
     record {
       casts = no_cast_needed m types froms tos c.args.words c.requires.ordered c.requires.enough c.args.bindgen.now none;
       back = c.in_ok-casts.ensures.back;
-      sends = nothing_cast m types froms tos c.args.bindgen.now none;
+      flows = nothing_cast m types froms tos c.args.words c.args.bindgen.now none;
     }
 
 pub returns : goal.returns
@@ -37,5 +37,5 @@ returns g c =
     record {
       casts = casts_sent m types froms tos c.args.words c.requires.ordered c.requires.enough _ _ c.as_slice-casts.result c.in_ok-cast.cast same c.in_ok-cast.ensures;
       back = c.in_ok-casts.ensures.back;
-      sends = casting_sent m types froms tos _ _ c.as_slice-casts.result c.args.words c.in_ok-cast.cast some same c.in_ok-cast.ensures;
+      flows = casting_flows m types froms tos _ _ c.as_slice-casts.result c.args.words c.in_ok-cast.cast some same c.in_ok-cast.ensures;
     }

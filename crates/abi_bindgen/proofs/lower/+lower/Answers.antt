@@ -1,4 +1,4 @@
-use Rattle.std.proofs.Common.{rules, ◌≡◌, ℤ, pos, ◌<◌, ◌≤◌, ◌^◌, ◌-◌, true, List, [], ◌∷◌, take, drop, Option, None, Some, option_map, ◌++◌, length, map, get_or, refl, sym, ap, ◌∙◌, subst, arith}
+use Rattle.std.proofs.Common.{rules, ◌≡◌, ℤ, pos, ◌<◌, ◌≤◌, ◌^◌, ◌-◌, ◌+◌, true, List, [], ◌∷◌, take, drop, Option, None, Some, option_map, ◌++◌, length, map, get_or, refl, sym, ap, ◌∙◌, subst, arith, ℕ}
 use Rattle.std.specs.List.{AllByRecursion, list_all}
 use Rattle.std.proofs.lemmas.Bool.{lt-ltb}
 use Rattle.std.proofs.lemmas.List.{drop_more, length-drop, length-map, length-take-le, take_all}
@@ -18,12 +18,12 @@ use Rattle.wrapper_meaning.specs.Shape.Shapes.{none, more}
 use Rattle.abi_bindgen.specs.CaseBlocks.{LowersCases}
 use Rattle.abi_bindgen.specs.Cases.{payloads_of}
 use Rattle.abi_bindgen.specs.declared.instruction.Instruction.{Instruction}
-use Rattle.abi_bindgen.specs.declared.instruction.Instruction.TheVariants.{EnumLower, FlagsLower, I32Const, StringLower, TupleLower, VariantPayloadName}
-use Rattle.abi_bindgen.specs.Code.{case_words, cast_code, each, lower_case, lower_code, payload_words, shared_slots, zero_code}
+use Rattle.abi_bindgen.specs.declared.instruction.Instruction.TheVariants.{EnumLower, FlagsLower, I32Const, RecordLower, StringLower, TupleLower, VariantPayloadName}
+use Rattle.abi_bindgen.specs.Code.{blocks_of_cases, case_words, cast_code, lower_case, lower_code, lower_payload, payload_words, shared_slots, zero_code}
+use Rattle.abi_bindgen.specs.Flow.{behind, each, emit, in_block, leading, same, ◌>>>◌, Flow, both, alone}
+use Rattle.abi_bindgen.specs.Flows.{Flows}
 use Rattle.abi_bindgen.specs.Blocks.{Finishes}
 use Rattle.abi_bindgen.specs.Instructions.{Emits, IsSendable, case_lowering, shapes_of}
-use Rattle.abi_bindgen.specs.Sends.{Sends}
-use Rattle.abi_bindgen.specs.Sent.{closes, sends}
 use Rattle.abi_bindgen.specs.Served.{ServesAll}
 use Rattle.abi_bindgen.specs.SlotCasts.{AddsZeros, AreOrdered, CastsAll, FitIn, ReadBack}
 use Rattle.abi_bindgen.specs.WordCount.{word_count, word_counts}
@@ -40,7 +40,7 @@ use Rattle.abi_bindgen.proofs.LowerSteps.{lowers_all_as, lowers_as, record_lower
 use Rattle.abi_bindgen.proofs.Records.{alias_below, alias_rank, alias_shape, count-shapes, drop-same, entry_at, enum_shape, flags_shape, kind_at, part_below_table, part_ranked, record_below, record_shape, tuple_below, tuple_shape, tuple_short}
 use Rattle.abi_bindgen.proofs.Runs.{adds_both, side_later}
 use Rattle.abi_bindgen.proofs.Serving.{alias_served, enum_served, few_payloads, other_refused, part_served, payload_served, payloads_served, record_served, tuple_served}
-use Rattle.abi_bindgen.proofs.SendSteps.{sends_as, sends_both, sends_last, sends_next, sends_one, sends_then}
+use Rattle.abi_bindgen.proofs.FlowSteps.{FlowsOn, flows_alone, flows_as, flows_block, flows_both, flows_last, flows_next, flows_then}
 use Rattle.abi_bindgen.proofs.WordCounts.{alias_words, case_count, few_words, no_more, part_few, record_words, tuple_words}
 use Rattle.abi_bindgen.proofs.Writing.{alias_written, each_later, one_written, part_later, payload_written, payloads_written, record_written, tuple_written, writes_later}
 use Rattle.abi_bindgen.proofs.lower.+lower.Goals as goal
@@ -67,7 +67,7 @@ lower_id-returns-in_ok-words-in-Alias g t c =
     let is = kind_at c.as_slice-types.result.now c.args.id.0 d (kind.Alias c.in-Alias.ty) c.index-types-at.is c.in-Alias.is in
     record {
       lowers = lowers_as m g.met.B.Bindgen.sound types c.args.realloc _ _ _ _ c.args.value c.in_ok-words-in-Alias.words (alias_shape types c.requires.down c.args.id.0 d at c.in-Alias.ty is) c.in_ok-words-in-Alias.ensures.lowers;
-      sends = sends_as m types _ _ _ _ (lower_alias_code types c.requires.down c.args.id d at c.args.realloc c.in-Alias.ty is) c.in_ok-words-in-Alias.ensures.sends;
+      flows = flows_as m types _ _ _ _ _ _ (lower_alias_code types c.requires.down c.args.id d at c.args.realloc c.in-Alias.ty is) c.in_ok-words-in-Alias.ensures.flows;
     }
 
 pub lower_id-returns-in_ok-words-in-Enum : goal.lower_id-returns-in_ok-words-in-Enum
@@ -83,7 +83,7 @@ lower_id-returns-in_ok-words-in-Enum g t c =
     let flat = enum_lowers m types c.args.realloc c.args.id members _ _ c.args.value c.in_ok-words-in-Enum.words most (record { entry = d; stands = at; kind = is }) e in
     record {
       lowers = lowers_as m g.met.B.Bindgen.sound types c.args.realloc _ _ _ _ c.args.value c.in_ok-words-in-Enum.words (enum_shape types c.requires.down c.args.id.0 d at members is) flat;
-      sends = sends_as m types _ _ _ _ (lower_enum_code types c.requires.down c.args.id d at c.args.realloc members is) (sends_one m types (EnumLower c.args.id) _ _ _ _ e);
+      flows = flows_as m types (emit (EnumLower c.args.id)) _ _ _ _ _ (lower_enum_code types c.requires.down c.args.id d at c.args.realloc members is) e;
     }
 
 pub lower_id-lower_by-requires-in-Flags : goal.lower_id-lower_by-requires-in-Flags
@@ -107,7 +107,7 @@ lower_id-returns-in_ok-words-in-Flags g t c =
     let flat = flags_lowers m types c.args.realloc c.args.id (length members) _ _ c.args.value c.in_ok-words-in-Flags.words (members, record { entry = d; stands = at; kind = is }, refl) e in
     record {
       lowers = lowers_as m g.met.B.Bindgen.sound types c.args.realloc _ _ _ _ c.args.value c.in_ok-words-in-Flags.words (flags_shape types c.requires.down c.args.id.0 d at members is) flat;
-      sends = sends_as m types _ _ _ _ (lower_flags_code types c.requires.down c.args.id d at c.args.realloc members is) (sends_one m types (FlagsLower c.args.id) _ _ _ _ e);
+      flows = flows_as m types (emit (FlagsLower c.args.id)) _ _ _ _ _ (lower_flags_code types c.requires.down c.args.id d at c.args.realloc members is) e;
     }
 
 pub lower_record-lower_by-requires : goal.lower_record-lower_by-requires
@@ -140,10 +140,11 @@ lower_record-returns g t c =
     let same : c.as_slice-tys.result.now ≡ map (λ (f : Field). f.ty) members = c.as_slice-tys.ensures ∙ c.in_ok-tys.ensures ∙ ap (map (λ (f : Field). f.ty)) c.as_slice.ensures in
     let later = lowers_all_as m g.met.B.Bindgen.sound types c.args.realloc _ _ _ _ c.in_ok-parts.parts c.in_ok-words.words same c.in_ok-words.ensures.lowers in
     let whole = record_lowers m g.met.B.Bindgen.sound types c.args.realloc c.args.id members _ _ _ c.args.value c.in_ok-parts.parts c.in_ok-words.words (record { entry = here.entry; at = here.stands; kind = here.kind }) c.in_ok-parts.ensures later in
-    let parts = sends_as m types _ _ _ _ (ap (each (λ n ty. lower_code types c.args.realloc ty) 0) (sym same)) c.in_ok-words.ensures.sends in
+    let parts = flows_as m types _ _ _ _ _ _ (ap (each 0 (λ ty. 1) (λ n ty. lower_code types c.args.realloc ty) 0) (sym same)) c.in_ok-words.ensures.flows in
     record {
       lowers = lowers_as m g.met.B.Bindgen.sound types c.args.realloc _ _ _ _ c.args.value c.in_ok-words.words (record_shape types c.requires.down c.args.id.0 here.entry here.stands members here.kind) whole;
-      sends = sends_as m types _ _ _ _ (lower_record_code types c.requires.down c.args.id here.entry here.stands c.args.realloc members here.kind) (sends_then m types _ _ _ _ _ _ _ c.in_ok-parts.ensures parts);
+      flows = flows_as m types _ _ _ _ _ _ (lower_record_code types c.requires.down c.args.id here.entry here.stands c.args.realloc members here.kind)
+          (flows_then m types (emit (RecordLower c.args.id)) (each 0 (λ ty. 1) (λ n ty. lower_code types c.args.realloc ty) 0 (map (λ (f : Field). f.ty) members)) _ c.in_ok-parts.parts _ _ _ _ c.in_ok-parts.ensures parts);
     }
 
 pub lower_tuple-lower_parts-requires : goal.lower_tuple-lower_parts-requires
@@ -171,11 +172,11 @@ lower_tuple-returns g t c =
     let count = count-shapes types tys ∙ sym (c.part_count.ensures ∙ ap length c.as_slice-tys.ensures) in
     let whole = tuple_lowers m g.met.B.Bindgen.sound types c.args.realloc c.part_count.result (shapes_of types tys) _ _ _ c.args.value c.in_ok-parts.parts c.in_ok-words.words count c.in_ok-parts.ensures later in
     let many : length tys ≡ c.part_count.result = sym (c.part_count.ensures ∙ ap length c.as_slice-tys.ensures) in
-    let parts = sends_as m types _ _ _ _ (ap (each (λ n ty. lower_code types c.args.realloc ty) 0) (sym c.as_slice-tys.ensures)) c.in_ok-words.ensures.sends in
-    let code = lower_tuple_code types c.requires.down c.args.id here.entry here.stands c.args.realloc tys here.kind ∙ ap (λ n. sends (TupleLower n) ∷ each (λ n ty. lower_code types c.args.realloc ty) 0 tys) many in
+    let parts = flows_as m types _ _ _ _ _ _ (ap (each 0 (λ ty. 1) (λ n ty. lower_code types c.args.realloc ty) 0) (sym c.as_slice-tys.ensures)) c.in_ok-words.ensures.flows in
+    let code = lower_tuple_code types c.requires.down c.args.id here.entry here.stands c.args.realloc tys here.kind ∙ ap (λ n. emit (TupleLower n) >>> each 0 (λ ty. 1) (λ n ty. lower_code types c.args.realloc ty) 0 tys) many in
     record {
       lowers = lowers_as m g.met.B.Bindgen.sound types c.args.realloc _ _ _ _ c.args.value c.in_ok-words.words (tuple_shape types c.requires.down c.args.id.0 here.entry here.stands tys here.kind) whole;
-      sends = sends_as m types _ _ _ _ code (sends_then m types _ _ _ _ _ _ _ c.in_ok-parts.ensures parts);
+      flows = flows_as m types _ _ _ _ _ _ code (flows_then m types (emit (TupleLower c.part_count.result)) (each 0 (λ ty. 1) (λ n ty. lower_code types c.args.realloc ty) 0 tys) _ c.in_ok-parts.parts _ _ _ _ c.in_ok-parts.ensures parts);
     }
 
 pub lower_parts-lower_type-requires : goal.lower_parts-lower_type-requires
@@ -194,25 +195,33 @@ lower_parts-lower_type-requires g t c κs within =
 pub lower_parts-loop-i-preserved : goal.lower_parts-loop-i-preserved
 lower_parts-loop-i-preserved g t c =
     let m = g.B.Bindgen.meaning in
-    let short : c.loop-i.i < length c.args.tys.now = omega (arith, c.loop-i-test.true) in
-    let enough : c.loop-i.i < length c.args.parts.now = omega (arith, short, c.requires.enough) in
+    let types = c.args.resolve.now.types in
+    let tys = c.args.tys.now in
+    let parts = c.args.parts.now in
+    let i = c.loop-i.i in
+    let part = c.in_ok-part.part in
+    let words = c.in_ok-words.words in
+    let short : i < length tys = omega (arith, c.loop-i-test.true) in
+    let enough : i < length parts = omega (arith, short, c.requires.enough) in
+    let unread : drop i parts ≡ part ∷ drop (i + 1) parts = drop-same parts c.as_slice.result.now i part c.index-as_slice-i.result c.as_slice.ensures enough c.index-as_slice-i.is c.in_ok-part.ensures in
+    let all = c.in_ok-push_copies.ensures ∙ ap (λ os. c.loop-i.all.items ++ os) c.as_slice-in-loop-i.ensures in
+    let code : ℕ → WitType → Flow = λ n ty. lower_code types c.args.realloc ty in
+    let on = subst (λ os. FlowsOn m types 0 (λ ty. 1) code [] tys parts c.args.bindgen.now i c.loop-i.all.items os c.loop-i.bindgen) unread c.loop-i.invariant.flows in
     record {
       adds = adds_both m _ _ _ c.loop-i.invariant.adds c.in_ok-words.ensures.lowers.adds;
-      sent = sends_next m c.args.resolve.now.types (λ n ty. lower_code c.args.resolve.now.types c.args.realloc ty) c.args.tys.now c.loop-i.i wit.Bool _ _ _ short c.loop-i.invariant.sent c.in_ok-words.ensures.sends;
-      rest = rest_next m g.met.B.Bindgen.sound c.args.resolve.now.types c.args.realloc c.args.tys.now c.args.parts.now c.loop-i.i c.loop-i.all.items c.in_ok-words.words c.push_copies.new.all.items _ _ _ (get_or c.args.tys.now c.loop-i.i wit.Bool) c.in_ok-part.part
-          (drop_more c.args.tys.now c.loop-i.i wit.Bool short)
-          (drop-same c.args.parts.now c.as_slice.result.now c.loop-i.i c.in_ok-part.part c.index-as_slice-i.result c.as_slice.ensures enough c.index-as_slice-i.is c.in_ok-part.ensures)
-          c.in_ok-words.ensures.lowers (c.in_ok-push_copies.ensures ∙ ap (λ os. c.loop-i.all.items ++ os) c.as_slice-in-loop-i.ensures) c.loop-i.invariant.rest;
+      flows = flows_next m types 0 (λ ty. 1) code [] tys parts c.args.bindgen.now i wit.Bool (part ∷ []) (drop (i + 1) parts) c.loop-i.all.items words c.push_copies.new.all.items _ _ short refl refl all c.in_ok-words.ensures.flows on;
+      rest = rest_next m g.met.B.Bindgen.sound types c.args.realloc tys parts i c.loop-i.all.items words c.push_copies.new.all.items _ _ _ (get_or tys i wit.Bool) part (drop_more tys i wit.Bool short) unread c.in_ok-words.ensures.lowers all c.loop-i.invariant.rest;
     }
 
 pub lower_parts-returns : goal.lower_parts-returns
 lower_parts-returns g t c =
     let m = g.B.Bindgen.meaning in
+    let types = c.args.resolve.now.types in
     let ended : length c.args.tys.now ≤ c.loop-i.i = omega (arith, c.loop-i-test.false) in
     let done : length c.args.parts.now ≤ c.loop-i.i = omega (arith, ended, c.requires.enough) in
     record {
-      lowers = rw c.from_vec.ensures (rest_last m g.met.B.Bindgen.sound c.args.resolve.now.types c.args.realloc c.args.tys.now c.args.parts.now c.loop-i.i c.loop-i.all.items _ _ ended done c.loop-i.invariant.rest);
-      sends = sends_last m c.args.resolve.now.types (λ n ty. lower_code c.args.resolve.now.types c.args.realloc ty) c.args.tys.now c.loop-i.i _ _ ended c.loop-i.invariant.sent;
+      lowers = rw c.from_vec.ensures (rest_last m g.met.B.Bindgen.sound types c.args.realloc c.args.tys.now c.args.parts.now c.loop-i.i c.loop-i.all.items _ _ ended done c.loop-i.invariant.rest);
+      flows = rw c.from_vec.ensures (flows_last m types 0 (λ ty. 1) (λ n ty. lower_code types c.args.realloc ty) [] c.args.tys.now c.args.parts.now c.args.bindgen.now c.loop-i.i c.loop-i.all.items (drop c.loop-i.i c.args.parts.now) _ ended c.loop-i.invariant.flows);
     }
 
 pub lower_type-returns-in-Some : goal.lower_type-returns-in-Some
@@ -222,7 +231,7 @@ lower_type-returns-in-Some g t c =
     let is = sym c.scalar_lowering.ensures ∙ c.in-Some.is in
     record {
       lowers = scalar_lowers m g.met.B.Bindgen.sound types c.args.realloc c.args.ty c.in-Some.inst _ _ c.args.value c.in_ok-words.words is c.in_ok-words.ensures;
-      sends = sends_as m types _ _ _ _ (lower_scalar_code types c.args.realloc c.args.ty c.in-Some.inst is) (sends_one m types c.in-Some.inst _ _ _ _ c.in_ok-words.ensures);
+      flows = flows_as m types (emit c.in-Some.inst) _ _ _ _ _ (lower_scalar_code types c.args.realloc c.args.ty c.in-Some.inst is) c.in_ok-words.ensures;
     }
 
 pub lower_type-returns-in_ok-words-in-String : goal.lower_type-returns-in_ok-words-in-String
@@ -231,7 +240,7 @@ lower_type-returns-in_ok-words-in-String g t c =
     let types = c.args.resolve.now.types in
     record {
       lowers = lowers_as m g.met.B.Bindgen.sound types c.args.realloc _ _ _ _ c.args.value c.in_ok-words-in-String.words (ap (shape_of types) c.in-String.is) (text_lowers m g.met.B.Bindgen.sound types c.args.realloc _ _ c.args.value _ c.in_ok-words-in-String.ensures);
-      sends = sends_as m types _ _ _ _ (ap (lower_code types c.args.realloc) c.in-String.is ∙ lower_text_code types c.args.realloc) (sends_one m types (StringLower c.args.realloc) _ _ _ _ c.in_ok-words-in-String.ensures);
+      flows = flows_as m types (emit (StringLower c.args.realloc)) _ _ _ _ _ (ap (lower_code types c.args.realloc) c.in-String.is ∙ lower_text_code types c.args.realloc) c.in_ok-words-in-String.ensures;
     }
 
 pub lower_cases-flat_types-flat-requires-clause-below : goal.lower_cases-flat_types-flat-requires-clause-below
@@ -271,7 +280,7 @@ lower_cases-lower_case-requires g t c κs within =
     search rules
 
 pub lower_cases-loop-i-init : goal.lower_cases-loop-i-init
-lower_cases-loop-i-init g t c = record { grows = grows_none g.B.Bindgen.meaning c.args.bindgen.now; code = refl; sent = refl; rest = λ new h. h }
+lower_cases-loop-i-init g t c = record { grows = grows_none g.B.Bindgen.meaning c.args.bindgen.now; code = refl; flows = λ reads new gives h. h; rest = λ new h. h }
 
 pub lower_cases-loop-i-preserved : goal.lower_cases-loop-i-preserved
 lower_cases-loop-i-preserved g t c =
@@ -284,11 +293,12 @@ lower_cases-loop-i-preserved g t c =
     let short : i < length payloads = omega (arith, c.loop-i-test.true) in
     let told = slots_told types c.args.id payloads c.requires.cases f c.flat_types-flat.ensures (no_more c.args.resolve.now.types (wit.Id c.args.id) c.flat_types-flat.result c.flat_types-flat.ensures c.requires.sixteen) in
     let here = subst (λ (ds : List WasmType). LowersCases m c.args.realloc (more (payload_in (shapes types) (get_or payloads i None)) none) i ds c.loop-i.bindgen c.lower_case.new.bindgen) told c.in_ok-lower_case.ensures.lowers in
-    let sent = subst (λ (ds : List WasmType). Sends m types (lower_case types ds i (get_or payloads i None) (option_map (lower_code types c.args.realloc) (get_or payloads i None))) c.loop-i.bindgen c.lower_case.new.bindgen) told c.in_ok-lower_case.ensures.sends in
+    let made : Option WitType → Option (WitType × Flow) = option_map (λ ty. (ty, lower_code types c.args.realloc ty)) in
+    let flow = subst (λ (ds : List WasmType). Flows m types (in_block (lower_case types ds i (made (get_or payloads i None)))) [] [] c.loop-i.bindgen c.lower_case.new.bindgen) told c.in_ok-lower_case.ensures.flows in
     record {
       grows = grows_alike m _ _ _ c.loop-i.invariant.code c.loop-i.invariant.grows here.adds.grows;
       code = here.adds.code ∙ c.loop-i.invariant.code;
-      sent = sends_next m types (λ n payload. lower_case types (shared_slots types payloads) n payload (option_map (lower_code types c.args.realloc) payload)) payloads i None _ _ _ short c.loop-i.invariant.sent sent;
+      flows = λ reads. flows_next m types 0 (λ payload. 0) (λ n payload. in_block (lower_case types (shared_slots types payloads) n (made payload))) [] payloads reads c.args.bindgen.now i None [] reads [] [] [] _ _ short refl refl refl flow (c.loop-i.invariant.flows reads);
       rest = cases_next m g.met.B.Bindgen.sound r c.requires.down c.args.id c.args.realloc payloads i None (shared_slots types payloads) _ _ _ short c.loop-i.invariant.rest here;
     }
 
@@ -303,7 +313,7 @@ lower_cases-returns g t c =
       words = count_told types c.args.id payloads c.requires.cases c.flat_types-flat.result c.flat_types-flat.ensures (no_more c.args.resolve.now.types (wit.Id c.args.id) c.flat_types-flat.result c.flat_types-flat.ensures c.requires.sixteen);
       few = few_payloads types c.args.id.0 payloads c.requires.cases c.requires.serves;
       lowers = cases_done m g.met.B.Bindgen.sound r c.requires.down c.args.id c.args.realloc payloads c.loop-i.i (shared_slots types payloads) _ _ ended c.loop-i.invariant.rest;
-      sends = sends_last m types (λ n payload. lower_case types (shared_slots types payloads) n payload (option_map (lower_code types c.args.realloc) payload)) payloads c.loop-i.i _ _ ended c.loop-i.invariant.sent;
+      flows = λ reads. flows_last m types 0 (λ payload. 0) (λ n payload. in_block (lower_case types (shared_slots types payloads) n (option_map (λ ty. (ty, lower_code types c.args.realloc ty)) payload))) [] payloads reads c.args.bindgen.now c.loop-i.i [] reads _ ended (c.loop-i.invariant.flows reads);
     }
 
 pub lower_payload-slice_bounds-cast_words-end : goal.lower_payload-slice_bounds-cast_words-end
@@ -364,24 +374,32 @@ lower_payload-returns g t c =
     let casts = subst (λ n. CastsAll m words (take n slots) lowered c.in_ok-words.words c.lower_type.new.bindgen c.cast_words.new.bindgen) is
     (subst (λ (xs : List WasmType). CastsAll m xs (take f.count slots) lowered c.in_ok-words.words c.lower_type.new.bindgen c.cast_words.new.bindgen) told c.in_ok-words.ensures.casts) in
     let back = subst (λ n. ReadBack words (take n slots)) is (subst (λ (xs : List WasmType). ReadBack xs (take f.count slots)) told c.in_ok-words.ensures.back) in
-    let cast_sent = subst (λ n. Sends m types (cast_code words (take n slots)) c.lower_type.new.bindgen c.cast_words.new.bindgen) is
-    (subst (λ (xs : List WasmType). Sends m types (cast_code xs (take f.count slots)) c.lower_type.new.bindgen c.cast_words.new.bindgen) told c.in_ok-words.ensures.sends) in
+    let cast_flow = subst (λ n. Flows m types (cast_code words (take n slots)) lowered c.in_ok-words.words c.lower_type.new.bindgen c.cast_words.new.bindgen) is
+    (subst (λ (xs : List WasmType). Flows m types (cast_code xs (take f.count slots)) lowered c.in_ok-words.words c.lower_type.new.bindgen c.cast_words.new.bindgen) told c.in_ok-words.ensures.flows) in
     let left : take (length slots - f.count) (drop f.count slots) ≡ drop (length words) slots = take_all (length slots - f.count) (drop f.count slots) (omega (arith, length-drop f.count slots)) ∙ ap (λ n. drop n slots) is in
     let zeros = subst (λ (ds : List WasmType). AddsZeros m ds c.in_ok-zeros.zeros c.cast_words.new.bindgen c.zero_words.new.bindgen) left c.in_ok-zeros.ensures.zeros in
-    let zero_sent = subst (λ (ds : List WasmType). Sends m types (zero_code ds) c.cast_words.new.bindgen c.zero_words.new.bindgen) left c.in_ok-zeros.ensures.sends in
+    let zero_flow = subst (λ (ds : List WasmType). Flows m types (zero_code ds) [] c.in_ok-zeros.zeros c.cast_words.new.bindgen c.zero_words.new.bindgen) left c.in_ok-zeros.ensures.flows in
     let close = subst (λ (zs : List g.row.B-Operand.Denot). Finishes m (tag ∷ c.in_ok-words.words ++ zs) c.zero_words.new.bindgen c.close_case.new.bindgen) c.as_slice-2.ensures
     (subst (λ (ws : List g.row.B-Operand.Denot). Finishes m (tag ∷ ws ++ c.as_slice-2.result.now) c.zero_words.new.bindgen c.close_case.new.bindgen) c.as_slice.ensures c.in_ok-close_case.ensures) in
     let some = payload_some c.args.resolve.now c.requires.well ty c.requires.below in
-    let lower_sent = lower_code types c.args.realloc ty in
-    let cast_steps = cast_code words (take (length words) slots) in
-    let zero_steps = zero_code (drop (length words) slots) in
     let ended = c.close_case.new.bindgen in
-    let with_casts = sends_both m types lower_sent cast_steps numbered c.lower_type.new.bindgen c.cast_words.new.bindgen c.in_ok-lowered.ensures.sends cast_sent in
-    let with_zeros = sends_both m types (lower_sent ++ cast_steps) zero_steps numbered c.cast_words.new.bindgen c.zero_words.new.bindgen with_casts zero_sent in
-    let inside = sends_both m types ((lower_sent ++ cast_steps) ++ zero_steps) (closes ∷ []) numbered c.zero_words.new.bindgen ended with_zeros (tag ∷ c.in_ok-words.words ++ c.in_ok-zeros.zeros, ended, close, refl) in
+    let part = lower_code types c.args.realloc ty in
+    let filled = c.zero_words.new.bindgen in
+    let casts_code : Flow = cast_code words (take (length words) slots) in
+    let zeros_code : Flow = zero_code (drop (length words) slots) in
+    let all = c.in_ok-words.words ++ c.in_ok-zeros.zeros in
+    let put = flows_both m types (part >>> casts_code) (alone zeros_code) (payload ∷ []) c.in_ok-words.words c.in_ok-zeros.zeros numbered c.cast_words.new.bindgen filled
+    (flows_then m types part casts_code (payload ∷ []) lowered c.in_ok-words.words numbered c.lower_type.new.bindgen c.cast_words.new.bindgen c.in_ok-lowered.ensures.flows cast_flow)
+    (flows_alone m types zeros_code (payload ∷ []) c.in_ok-zeros.zeros c.cast_words.new.bindgen filled zero_flow) in
+    let names : Flow = both (emit VariantPayloadName) (emit (I32Const (pos c.args.number))) in
+    let put_code : Flow = leading 1 >>> lower_payload words slots part in
+    let inside = flows_then m types names (both (behind 1) put_code) [] (payload ∷ tag ∷ []) (tag ∷ all) b numbered filled
+    (flows_both m types (emit VariantPayloadName) (emit (I32Const (pos c.args.number))) [] (payload ∷ []) (tag ∷ []) b named numbered name const)
+    (flows_both m types (behind 1) put_code (payload ∷ tag ∷ []) (tag ∷ []) all numbered numbered filled (refl, refl)
+    (flows_then m types (leading 1) (lower_payload words slots part) (payload ∷ tag ∷ []) (payload ∷ []) all numbered numbered filled (refl, refl) put)) in
     record {
       lowers = full_lowers m sound c.args.realloc c.args.number (shape_of types ty) slots types _ b named numbered _ _ _ _ payload tag lowered c.in_ok-words.words c.in_ok-zeros.zeros c.requires.fits some back opens name const c.in_ok-lowered.ensures.lowers casts zeros close;
-      sends = (b, opens, ([], payload ∷ [], named, name, ([], tag ∷ [], numbered, const, inside)));
+      flows = flows_block m types (lower_case types slots c.args.number (Some (ty, part))) [] (tag ∷ c.in_ok-words.words ++ c.in_ok-zeros.zeros) _ b filled ended opens inside close;
     }
 
 pub lower_variant-lower_cases-requires : goal.lower_variant-lower_cases-requires
@@ -424,12 +442,16 @@ lower_variant-returns g t c =
     let many : n ≡ case_words types (payloads_of kind) = c.in_ok-count.ensures.words ∙ ap (case_words types) is in
     let most : length (payloads_of kind) ≤ 2 ^ 31 = omega (arith, c.in_ok-count.ensures.few, ap length is) in
     let blocks = subst (λ (ps : List (Option WitType)). LowersCases m realloc (payloads_in (shapes types) ps) 0 (shared_slots types ps) c.args.bindgen.now c.lower_cases.new.bindgen) is c.in_ok-count.ensures.lowers in
-    let sent = subst (λ (ps : List (Option WitType)). Sends m types (each (λ n payload. lower_case types (shared_slots types ps) n payload (option_map (lower_code types realloc) payload)) 0 ps) c.args.bindgen.now c.lower_cases.new.bindgen) is c.in_ok-count.ensures.sends in
+    let value = c.args.value in
+    let blocks_code : Flow = blocks_of_cases 0 (lower_case types (shared_slots types (payloads_of kind))) (lower_code types realloc) (payloads_of kind) in
+    let flow = subst (λ (ps : List (Option WitType)). Flows m types (blocks_of_cases 0 (lower_case types (shared_slots types ps)) (lower_code types realloc) ps) (value ∷ []) [] c.args.bindgen.now c.lower_cases.new.bindgen) is (c.in_ok-count.ensures.flows (value ∷ [])) in
     let e = subst (λ (i : Instruction). Emits m types i (c.args.value ∷ []) c.in_ok-words.words c.lower_cases.new.bindgen c.lower_by.new.bindgen) c.case_lowering-inst.ensures c.in_ok-words.ensures in
     let told = subst (λ k. Emits m types (case_lowering kind c.args.id k) (c.args.value ∷ []) c.in_ok-words.words c.lower_cases.new.bindgen c.lower_by.new.bindgen) many e in
     record {
       lowers = variant_lowers m g.met.B.Bindgen.sound r c.requires.down c.args.id realloc _ _ kind n _ c.args.value c.in_ok-words.words here c.requires.cases many most blocks e;
-      sends = sends_as m types _ _ _ _ (lower_variant_code types c.requires.down c.args.id here.entry here.stands realloc kind here.kind c.requires.cases) (sends_both m types _ _ _ _ _ sent (sends_one m types (case_lowering kind c.args.id (case_words types (payloads_of kind))) _ _ _ _ told));
+      flows = flows_as m types _ _ _ _ _ _ (lower_variant_code types c.requires.down c.args.id here.entry here.stands realloc kind here.kind c.requires.cases)
+          (flows_then m types (both blocks_code same) (emit (case_lowering kind c.args.id (case_words types (payloads_of kind)))) (value ∷ []) (value ∷ []) c.in_ok-words.words c.args.bindgen.now c.lower_cases.new.bindgen c.lower_by.new.bindgen
+          (flows_both m types blocks_code same (value ∷ []) [] (value ∷ []) c.args.bindgen.now c.lower_cases.new.bindgen c.lower_cases.new.bindgen flow (refl, refl)) told);
     }
 
 pub lower_id-unreachable-requires : goal.lower_id-unreachable-requires

@@ -1,12 +1,13 @@
-use Rattle.std.proofs.Common.{◌≡◌, ◌++◌, ◌+◌, ◌*◌, List, drop, take, option_map}
+use Rattle.std.proofs.Common.{◌≡◌, ◌++◌, ◌+◌, ◌*◌, List, [], drop, option_map}
 use Rattle.wrapper_meaning.specs.Shape.{payloads_in, shapes}
 use Rattle.wit_layout.proofs.FlattenSteps.{payload_rank, rank}
 use Rattle.abi_bindgen.specs.CaseBlocks.{LowersCases}
-use Rattle.abi_bindgen.specs.Code.{each, lower_case, lower_code, shared_slots}
+use Rattle.abi_bindgen.specs.Code.{lower_case, lower_code, shared_slots}
+use Rattle.abi_bindgen.specs.Flow.{in_block}
 use Rattle.abi_bindgen.specs.Instructions.{shapes_of}
 use Rattle.abi_bindgen.specs.Laws.{Adds, Grows}
 use Rattle.abi_bindgen.specs.Lowers.{LowersAll}
-use Rattle.abi_bindgen.specs.Sends.{Sends}
+use Rattle.abi_bindgen.proofs.FlowSteps.{FlowsOn}
 use Rattle.abi_bindgen.proofs.lower.+lower.Given as goal
 
 abbrev pub decreases-lower_type : goal.decreases-lower_type
@@ -36,19 +37,19 @@ decreases-lower_payload g l = 8 * rank l.ty + 1
 abbrev pub decreases-lower_parts : goal.decreases-lower_parts
 decreases-lower_parts g l = 8 * l.at + 1
 
--- what lowers the parts that are left, lowers them all; and what was sent is the code of the parts so far
+-- what lowers the parts that are left, lowers them all; and what flows for them, flows for all
 abbrev pub invariant-lower_parts-loop-i : goal.invariant-lower_parts-loop-i
 invariant-lower_parts-loop-i g l =
     let m = g.B.Bindgen.meaning in
     let types = l.resolve.types in
     record {
       adds : Adds m l.initial.bindgen l.bindgen;
-      sent : Sends m types (each (λ n ty. lower_code types l.realloc ty) 0 (take l.i l.tys)) l.initial.bindgen l.bindgen;
+      flows : FlowsOn m types 0 (λ ty. 1) (λ n ty. lower_code types l.realloc ty) [] l.tys l.parts l.initial.bindgen l.i l.all.items (drop l.i l.parts) l.bindgen;
       rest : (new : g.row.B.Denot) (later : List _) → LowersAll m l.realloc (shapes_of types (drop l.i l.tys)) (drop l.i l.parts) later l.bindgen new
           → LowersAll m l.realloc (shapes_of types l.tys) l.parts (l.all.items ++ later) l.initial.bindgen new;
     }
 
--- what lowers the cases that are left, lowers them all; and what was sent is the code of the cases so far
+-- what lowers the cases that are left, lowers them all; and what flows for them, flows for all
 abbrev pub invariant-lower_cases-loop-i : goal.invariant-lower_cases-loop-i
 invariant-lower_cases-loop-i g l =
     let m = g.B.Bindgen.meaning in
@@ -57,7 +58,7 @@ invariant-lower_cases-loop-i g l =
     record {
       grows : Grows m l.initial.bindgen l.bindgen;
       code : m.code l.bindgen ≡ m.code l.initial.bindgen;
-      sent : Sends m types (each (λ n payload. lower_case types shared n payload (option_map (lower_code types l.realloc) payload)) 0 (take l.i l.payloads)) l.initial.bindgen l.bindgen;
+      flows : (reads : List g.row.B-Operand.Denot) → FlowsOn m types 0 (λ payload. 0) (λ n payload. in_block (lower_case types shared n (option_map (λ ty. (ty, lower_code types l.realloc ty)) payload))) [] l.payloads reads l.initial.bindgen l.i [] reads l.bindgen;
       rest : (new : g.row.B.Denot) → LowersCases m l.realloc (payloads_in (shapes types) (drop l.i l.payloads)) l.i shared l.bindgen new
           → LowersCases m l.realloc (payloads_in (shapes types) l.payloads) 0 shared l.initial.bindgen new;
     }

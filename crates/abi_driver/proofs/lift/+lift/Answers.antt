@@ -1,7 +1,8 @@
-use Rattle.std.proofs.Common.{rules, ◌-◌, drop, take, Option, None, Some, option_map, refl, ◌≡◌, ◌<◌, ◌≤◌, ◌+◌, true, List, [], ◌∷◌, ◌++◌, length, map, get_or, IfOk, OnOk, sym, ap, ◌∙◌, subst, arith}
+use Rattle.std.proofs.Common.{rules, ◌-◌, drop, take, Option, None, Some, option_map, refl, ℕ, suc, ◌≡◌, ◌<◌, ◌≤◌, ◌+◌, true, List, [], ◌∷◌, ◌++◌, length, map, get_or, IfOk, sym, ap, ◌∙◌, subst, arith, append-nil}
 use Rattle.std.specs.List.{AllByRecursion, list_all}
 use Rattle.std.proofs.lemmas.Bool.{lt-ltb, ltb-true}
-use Rattle.std.proofs.lemmas.List.{drop-drop, drop_all, drop_more, length-append, length-drop, length-map, length-take-le, take-append-drop}
+use Rattle.std.proofs.lemmas.List.{drop-drop, drop_all, drop_more, length-append, length-drop, length-map, length-take-le, take-append-drop, take_all, take_at}
+use Rattle.std.proofs.Math.Seq.{take-add}
 use Rattle.std.proofs.lemmas.Option.{slice_get_within}
 use Rattle.wit_model.specs.Reaches.{reaches_itself}
 use Rattle.wit_model.specs.TypeOrder.{payload_below, type_below}
@@ -19,12 +20,12 @@ use Rattle.abi_bindgen.specs.CaseBlocks.{LiftsCases}
 use Rattle.abi_bindgen.specs.Cases.{payloads_of, result_counts}
 use Rattle.abi_bindgen.specs.declared.instruction.Instruction.{Instruction}
 use Rattle.abi_bindgen.specs.declared.instruction.Instruction.TheVariants.{RecordLift, TupleLift}
-use Rattle.abi_bindgen.specs.Code.{case_words, cast_code, each, lift_case, lift_code, payload_words, shared_slots}
+use Rattle.abi_bindgen.specs.Code.{blocks_of_cases, case_words, cast_code, lift_case, lift_code, payload_words, shared_slots}
+use Rattle.abi_bindgen.specs.Flow.{Flow, behind, each, emit, in_block, leading, ◌>>>◌, both}
+use Rattle.abi_bindgen.specs.Flows.{Flows}
 use Rattle.abi_bindgen.specs.HasList.{IsKindOf}
 use Rattle.abi_bindgen.specs.Instructions.{Emits, IsRecord, IsSendable, Makes, case_lifting, has_cases, shapes_of}
 use Rattle.abi_bindgen.specs.Lifts.{LiftsAll, LiftsFlat}
-use Rattle.abi_bindgen.specs.Sends.{Sends}
-use Rattle.abi_bindgen.specs.Sent.{Sent, closes, sends}
 use Rattle.abi_bindgen.specs.Served.{Serves, ServesAll}
 use Rattle.abi_bindgen.specs.SlotCasts.{AreOrdered, CastsAll, FitIn}
 use Rattle.abi_bindgen.proofs.BlockRuns.{grows_alike, grows_none}
@@ -42,7 +43,7 @@ use Rattle.abi_bindgen.proofs.Records.{alias_below, alias_rank, alias_shape, cou
 use Rattle.abi_bindgen.proofs.Serving.{alias_served, enum_served, other_refused, part_served, payload_served, payloads_served, record_served, tuple_served}
 use Rattle.abi_bindgen.proofs.Writing.{alias_written, one_written, part_later, payload_written, payloads_written, record_written, tuple_written, writes_later}
 use Rattle.abi_bindgen.proofs.WordCounts.{alias_words, enum_words, few_words, flags_words, no_more, record_words, tuple_words, variant_words}
-use Rattle.abi_bindgen.proofs.SendSteps.{sends_as, sends_both, sends_last, sends_next, sends_one}
+use Rattle.abi_bindgen.proofs.FlowSteps.{FlowsOn, flows_as, flows_block, flows_both, flows_last, flows_next, flows_then}
 use Rattle.abi_driver.proofs.lift.+lift.Goals as goal
 
 pub lift_type-lift_scalar-requires : goal.lift_type-lift_scalar-requires
@@ -52,11 +53,12 @@ lift_type-lift_scalar-requires g t c =
 
 pub lift_type-returns-in-Some : goal.lift_type-returns-in-Some
 lift_type-returns-in-Some g t c =
-    let one = scalar_words c.args.resolve.now.types c.args.ty c.in-Some.inst (sym c.scalar_lifting.ensures ∙ c.in-Some.is) in
+    let types = c.args.resolve.now.types in
+    let one = scalar_words types c.args.ty c.in-Some.inst (sym c.scalar_lifting.ensures ∙ c.in-Some.is) in
     record {
       next = subst (λ n. IfOk c.lift_scalar.result (λ r. r.next ≡ c.args.at + n)) (sym one) c.lift_scalar.ensures.next;
       lifts = c.lift_scalar.ensures.lifts;
-      sends = c.lift_scalar.ensures.sends;
+      flows = subst (λ n. IfOk c.lift_scalar.result (λ r. Flows g.B.Bindgen.meaning types (lift_code types c.args.ty) (take n (drop c.args.at c.args.words.now)) (r.operand ∷ []) c.args.bindgen.now c.lift_scalar.new.bindgen)) (sym one) c.lift_scalar.ensures.flows;
     }
 
 pub lift_type-lift_text-requires : goal.lift_type-lift_text-requires
@@ -85,7 +87,7 @@ lift_type-returns-in-String g t c =
     record {
       next = subst (λ (ty : WitType). IfOk c.lift_text.result (λ r. r.next ≡ c.args.at + word_count types ty)) (sym c.in-String.is) c.lift_text.ensures.next;
       lifts = subst Lifts (sym c.in-String.is) c.lift_text.ensures.lifts;
-      sends = subst (λ (ty : WitType). OnOk c.lift_text.result (Sends m types (lift_code types ty) c.args.bindgen.now new)) (sym c.in-String.is) c.lift_text.ensures.sends;
+      flows = subst (λ (ty : WitType). IfOk c.lift_text.result (λ r. Flows m types (lift_code types ty) (take (word_count types ty) (drop c.args.at words)) (r.operand ∷ []) c.args.bindgen.now new)) (sym c.in-String.is) c.lift_text.ensures.flows;
     }
 
 pub lift_type-returns-in-Id : goal.lift_type-returns-in-Id
@@ -98,7 +100,7 @@ lift_type-returns-in-Id g t c =
     record {
       next = subst (λ (ty : WitType). IfOk c.lift_id.result (λ r. r.next ≡ c.args.at + word_count types ty)) (sym c.in-Id.is) c.lift_id.ensures.next;
       lifts = subst Lifts (sym c.in-Id.is) c.lift_id.ensures.lifts;
-      sends = subst (λ (ty : WitType). OnOk c.lift_id.result (Sends m types (lift_code types ty) c.args.bindgen.now new)) (sym c.in-Id.is) c.lift_id.ensures.sends;
+      flows = subst (λ (ty : WitType). IfOk c.lift_id.result (λ r. Flows m types (lift_code types ty) (take (word_count types ty) (drop c.args.at words)) (r.operand ∷ []) c.args.bindgen.now new)) (sym c.in-Id.is) c.lift_id.ensures.flows;
     }
 
 pub lift_id-lift_type-requires : goal.lift_id-lift_type-requires
@@ -185,7 +187,7 @@ lift_id-returns-in-Enum g t c =
     record {
       next = subst (λ n. IfOk c.lift_enum.result (λ r. r.next ≡ c.args.at + n)) (sym one) c.lift_enum.ensures.next;
       lifts = c.lift_enum.ensures.lifts;
-      sends = c.lift_enum.ensures.sends;
+      flows = subst (λ n. IfOk c.lift_enum.result (λ r. Flows g.B.Bindgen.meaning types (lift_code types (wit.Id c.args.id)) (take n (drop c.args.at c.args.words.now)) (r.operand ∷ []) c.args.bindgen.now c.lift_enum.new.bindgen)) (sym one) c.lift_enum.ensures.flows;
     }
 
 pub lift_id-lift_flags-requires-clause-enough : goal.lift_id-lift_flags-requires-clause-enough
@@ -206,7 +208,7 @@ lift_id-returns-in-Flags g t c =
     record {
       next = subst (λ n. IfOk c.lift_flags.result (λ r. r.next ≡ c.args.at + n)) (sym many) c.lift_flags.ensures.next;
       lifts = c.lift_flags.ensures.lifts;
-      sends = c.lift_flags.ensures.sends;
+      flows = subst (λ n. IfOk c.lift_flags.result (λ r. Flows g.B.Bindgen.meaning types (lift_code types (wit.Id c.args.id)) (take n (drop c.args.at c.args.words.now)) (r.operand ∷ []) c.args.bindgen.now c.lift_flags.new.bindgen)) (sym many) c.lift_flags.ensures.flows;
     }
 
 pub lift_id-lift_flags-requires-clause-here : goal.lift_id-lift_flags-requires-clause-here
@@ -256,10 +258,12 @@ lift_id-returns-in-Alias g t c =
     let words = c.args.words.now in
     let new = c.lift_type.new.bindgen in
     let Lifts : Shape → Type 0 = λ s. IfOk c.lift_type.result (λ r. (used : List g.row.B-Operand.Denot) × (drop c.args.at words ≡ used ++ drop r.next words) × LiftsFlat m s used r.operand c.args.bindgen.now new) in
+    let same = sym (alias_words types c.requires.down c.args.id d at c.in-Alias.ty is) in
     record {
-      next = subst (λ n. IfOk c.lift_type.result (λ r. r.next ≡ c.args.at + n)) (sym (alias_words types c.requires.down c.args.id d at c.in-Alias.ty is)) c.lift_type.ensures.next;
+      next = subst (λ n. IfOk c.lift_type.result (λ r. r.next ≡ c.args.at + n)) same c.lift_type.ensures.next;
       lifts = subst Lifts (sym (alias_shape types c.requires.down c.args.id.0 d at c.in-Alias.ty is)) c.lift_type.ensures.lifts;
-      sends = subst (λ (code : List Sent). OnOk c.lift_type.result (Sends m types code c.args.bindgen.now new)) (sym (lift_alias_code types c.requires.down c.args.id d at c.in-Alias.ty is)) c.lift_type.ensures.sends;
+      flows = subst (λ (code : Flow). IfOk c.lift_type.result (λ r. Flows m types code (take (word_count types (wit.Id c.args.id)) (drop c.args.at words)) (r.operand ∷ []) c.args.bindgen.now new)) (sym (lift_alias_code types c.requires.down c.args.id d at c.in-Alias.ty is))
+          (subst (λ n. IfOk c.lift_type.result (λ r. Flows m types (lift_code types c.in-Alias.ty) (take n (drop c.args.at words)) (r.operand ∷ []) c.args.bindgen.now new)) same c.lift_type.ensures.flows);
     }
 
 pub lift_id-returns-in_ok-operand-in-Record : goal.lift_id-returns-in_ok-operand-in-Record
@@ -273,12 +277,14 @@ lift_id-returns-in_ok-operand-in-Record g t c =
     let same : c.as_slice-tys.result.now ≡ map (λ (f : Field). f.ty) members = c.as_slice-tys.ensures ∙ c.in_ok-tys-in-Record.ensures ∙ ap (map (λ (f : Field). f.ty)) c.as_slice.ensures in
     let lifted = lifts_all_as m g.met.B.Bindgen.sound types _ _ _ _ c.args.words.now c.args.at c.in_ok-lifted-in-Record.lifted.next c.in_ok-lifted-in-Record.lifted.parts same c.in_ok-lifted-in-Record.ensures.lifts in
     let whole = record_lifts m g.met.B.Bindgen.sound types c.args.id members _ _ _ lifted.0 c.in_ok-lifted-in-Record.lifted.parts c.in_ok-operand-in-Record.operand (record { entry = d; at = at; kind = is }) lifted.2 c.in_ok-operand-in-Record.ensures in
-    let parts = sends_as m types _ _ _ _ (ap (each (λ n ty. lift_code types ty) 0) (sym same)) c.in_ok-lifted-in-Record.ensures.sends in
     let many = record_words types c.requires.down c.args.id d at members is ∙ ap (word_counts types) (sym same) in
+    let parts = subst (λ n. Flows m types (each 0 (word_count types) (λ n ty. lift_code types ty) 0 (map (λ (f : Field). f.ty) members)) (take n (drop c.args.at c.args.words.now)) c.in_ok-lifted-in-Record.lifted.parts c.args.bindgen.now c.lift_parts.new.bindgen) (sym many)
+    (flows_as m types _ _ _ _ _ _ (ap (each 0 (word_count types) (λ n ty. lift_code types ty) 0) (sym same)) c.in_ok-lifted-in-Record.ensures.flows) in
     record {
       next = c.in_ok-lifted-in-Record.ensures.next ∙ ap (λ n. c.args.at + n) (sym many);
       lifts = lifts_as m g.met.B.Bindgen.sound types _ _ _ _ c.args.words.now c.args.at c.in_ok-lifted-in-Record.lifted.next c.in_ok-operand-in-Record.operand (record_shape types c.requires.down c.args.id.0 d at members is) (lifted.0, lifted.1, whole);
-      sends = sends_as m types _ _ _ _ (lift_record_code types c.requires.down c.args.id d at members is) (sends_both m types _ _ _ _ _ parts (sends_one m types (RecordLift c.args.id) _ _ _ _ c.in_ok-operand-in-Record.ensures));
+      flows = flows_as m types _ _ _ _ _ _ (lift_record_code types c.requires.down c.args.id d at members is)
+          (flows_then m types (each 0 (word_count types) (λ n ty. lift_code types ty) 0 (map (λ (f : Field). f.ty) members)) (emit (RecordLift c.args.id)) _ c.in_ok-lifted-in-Record.lifted.parts _ _ _ _ parts c.in_ok-operand-in-Record.ensures);
     }
 
 pub lift_id-returns-in_ok-operand-in-Tuple : goal.lift_id-returns-in_ok-operand-in-Tuple
@@ -293,19 +299,20 @@ lift_id-returns-in_ok-operand-in-Tuple g t c =
     let count = count-shapes types tys ∙ sym (c.part_count.ensures ∙ ap length c.as_slice-tys-in-Tuple.ensures) in
     let whole = tuple_lifts m g.met.B.Bindgen.sound types c.part_count.result (shapes_of types tys) _ _ _ lifted.0 c.in_ok-lifted-in-Tuple.lifted.parts c.in_ok-operand-in-Tuple.operand count lifted.2 c.in_ok-operand-in-Tuple.ensures in
     let many : length tys ≡ c.part_count.result = sym (c.part_count.ensures ∙ ap length c.as_slice-tys-in-Tuple.ensures) in
-    let parts = sends_as m types _ _ _ _ (ap (each (λ n ty. lift_code types ty) 0) (sym c.as_slice-tys-in-Tuple.ensures)) c.in_ok-lifted-in-Tuple.ensures.sends in
-    let code = lift_tuple_code types c.requires.down c.args.id d at tys is ∙ ap (λ n. each (λ n ty. lift_code types ty) 0 tys ++ sends (TupleLift n) ∷ []) many in
     let all = tuple_words types c.requires.down c.args.id d at tys is ∙ ap (word_counts types) (sym c.as_slice-tys-in-Tuple.ensures) in
+    let parts = subst (λ n. Flows m types (each 0 (word_count types) (λ n ty. lift_code types ty) 0 tys) (take n (drop c.args.at c.args.words.now)) c.in_ok-lifted-in-Tuple.lifted.parts c.args.bindgen.now c.lift_parts-in-Tuple.new.bindgen) (sym all)
+    (flows_as m types _ _ _ _ _ _ (ap (each 0 (word_count types) (λ n ty. lift_code types ty) 0) (sym c.as_slice-tys-in-Tuple.ensures)) c.in_ok-lifted-in-Tuple.ensures.flows) in
+    let code = lift_tuple_code types c.requires.down c.args.id d at tys is ∙ ap (λ n. each 0 (word_count types) (λ n ty. lift_code types ty) 0 tys >>> emit (TupleLift n)) many in
     record {
       next = c.in_ok-lifted-in-Tuple.ensures.next ∙ ap (λ n. c.args.at + n) (sym all);
       lifts = lifts_as m g.met.B.Bindgen.sound types _ _ _ _ c.args.words.now c.args.at c.in_ok-lifted-in-Tuple.lifted.next c.in_ok-operand-in-Tuple.operand (tuple_shape types c.requires.down c.args.id.0 d at tys is) (lifted.0, lifted.1, whole);
-      sends = sends_as m types _ _ _ _ code (sends_both m types _ _ _ _ _ parts (sends_one m types (TupleLift c.part_count.result) _ _ _ _ c.in_ok-operand-in-Tuple.ensures));
+      flows = flows_as m types _ _ _ _ _ _ code (flows_then m types (each 0 (word_count types) (λ n ty. lift_code types ty) 0 tys) (emit (TupleLift c.part_count.result)) _ c.in_ok-lifted-in-Tuple.lifted.parts _ _ _ _ parts c.in_ok-operand-in-Tuple.ensures);
     }
 
 pub lift_parts-loop-i-init : goal.lift_parts-loop-i-init
 lift_parts-loop-i-init g t c =
     let Lifts : List g.row.B-Operand.Denot → List g.row.B-Operand.Denot → g.row.B.Denot → Type 0 = λ qs ps new. LiftsAll g.B.Bindgen.meaning (shapes_of c.args.resolve.now.types c.args.tys.now) qs ps c.args.bindgen.now new in
-    record { adds = adds_same g.B.Bindgen.meaning c.args.bindgen.now; count = ap length c.new-parts.ensures; left = refl; low = omega arith; sent = refl; rest = ([], refl, λ new qs later h. subst (λ ps. Lifts qs (ps ++ later) new) (sym c.new-parts.ensures) h) }
+    record { adds = adds_same g.B.Bindgen.meaning c.args.bindgen.now; count = ap length c.new-parts.ensures; left = refl; low = omega arith; flows = λ new gives h. subst (λ ps. Flows g.B.Bindgen.meaning c.args.resolve.now.types (each 0 (word_count c.args.resolve.now.types) (λ n ty. lift_code c.args.resolve.now.types ty) 0 c.args.tys.now) (take (word_counts c.args.resolve.now.types c.args.tys.now) (drop c.args.at c.args.words.now)) (ps ++ gives) c.args.bindgen.now new) (sym c.new-parts.ensures) h; rest = ([], refl, λ new qs later h. subst (λ ps. Lifts qs (ps ++ later) new) (sym c.new-parts.ensures) h) }
 
 pub lift_parts-lift_type-requires : goal.lift_parts-lift_type-requires
 lift_parts-lift_type-requires g t c κs within =
@@ -326,12 +333,27 @@ lift_parts-loop-i-preserved g t c =
     let m = g.B.Bindgen.meaning in
     let short : c.loop-i.i < length c.args.tys.now = omega (arith, c.loop-i-test.true) in
     let next = words_next c.args.resolve.now.types c.args.tys.now c.loop-i.i (get_or c.args.tys.now c.loop-i.i wit.Bool) (drop_more c.args.tys.now c.loop-i.i wit.Bool short) in
+    let types = c.args.resolve.now.types in
+    let tys = c.args.tys.now in
+    let words = c.args.words.now in
+    let i = c.loop-i.i in
+    let from = c.loop-i.next in
+    let lifted = c.in_ok-lifted.lifted in
+    let one = word_count types (get_or tys i wit.Bool) in
+    let others = words_left types tys (i + 1) in
+    let mine = take one (drop from words) in
+    let rest = take others (drop lifted.next words) in
+    let behind : drop one (drop from words) ≡ drop lifted.next words = drop-drop one from words ∙ ap (λ k. drop k words) (sym c.in_ok-lifted.ensures.next) in
+    let unread : take (words_left types tys i) (drop from words) ≡ mine ++ rest = ap (λ k. take k (drop from words)) next ∙ take-add one others (drop from words) ∙ ap (λ os. mine ++ take others os) behind in
+    let room : one ≤ length (drop from words) = omega (arith, next, c.loop-i.invariant.left, c.requires.enough, length-drop from words) in
+    let on = subst (λ os. FlowsOn m types 0 (word_count types) (λ n ty. lift_code types ty) [] tys (take (word_counts types tys) (drop c.args.at words)) c.args.bindgen.now i c.loop-i.parts os c.loop-i.bindgen) unread c.loop-i.invariant.flows in
     record {
       adds = adds_both m _ _ _ c.loop-i.invariant.adds c.in_ok-lifted.ensures.lifts.2.adds;
       left = omega (arith, next, c.loop-i.invariant.left, c.in_ok-lifted.ensures.next);
       low = omega (arith, c.loop-i.invariant.low, c.in_ok-lifted.ensures.next);
       count = ap length c.in_ok-push.ensures.ok ∙ length-append c.loop-i.parts (c.in_ok-lifted.lifted.operand ∷ []) ∙ ap (λ n. n + 1) c.loop-i.invariant.count;
-      sent = sends_next m c.args.resolve.now.types (λ n ty. lift_code c.args.resolve.now.types ty) c.args.tys.now c.loop-i.i wit.Bool _ _ _ short c.loop-i.invariant.sent c.in_ok-lifted.ensures.sends;
+      flows = flows_next m types 0 (word_count types) (λ n ty. lift_code types ty) [] tys (take (word_counts types tys) (drop c.args.at words)) c.args.bindgen.now i wit.Bool mine rest c.loop-i.parts (lifted.operand ∷ []) c.push.new.self _ _ short refl
+          (length-take-le one (drop from words) room) c.in_ok-push.ensures.ok c.in_ok-lifted.ensures.flows on;
       rest = rest_next m g.met.B.Bindgen.sound c.args.resolve.now.types c.args.tys.now c.loop-i.i c.args.at c.args.words.now c.loop-i.next c.in_ok-lifted.lifted.next c.loop-i.parts c.push.new.self _ _ _
           (get_or c.args.tys.now c.loop-i.i wit.Bool) c.in_ok-lifted.lifted.operand (drop_more c.args.tys.now c.loop-i.i wit.Bool short) c.in_ok-lifted.ensures.lifts c.in_ok-push.ensures.ok c.loop-i.invariant.rest;
     }
@@ -349,10 +371,13 @@ lift_parts-returns-clause-next g t c =
     let none_left : words_left types c.args.tys.now c.loop-i.i ≡ 0 = ap (word_counts types) (drop_all c.loop-i.i c.args.tys.now ended) in
     omega (arith, c.loop-i.invariant.left, none_left)
 
-pub lift_parts-returns-clause-sends : goal.lift_parts-returns-clause-sends
-lift_parts-returns-clause-sends g t c =
-    let ended : length c.args.tys.now ≤ c.loop-i.i = omega (arith, c.loop-i-test.false) in
-    sends_last g.B.Bindgen.meaning c.args.resolve.now.types (λ n ty. lift_code c.args.resolve.now.types ty) c.args.tys.now c.loop-i.i _ _ ended c.loop-i.invariant.sent
+pub lift_parts-returns-clause-flows : goal.lift_parts-returns-clause-flows
+lift_parts-returns-clause-flows g t c =
+    let types = c.args.resolve.now.types in
+    let tys = c.args.tys.now in
+    let words = c.args.words.now in
+    let ended : length tys ≤ c.loop-i.i = omega (arith, c.loop-i-test.false) in
+    flows_last g.B.Bindgen.meaning types 0 (word_count types) (λ n ty. lift_code types ty) [] tys (take (word_counts types tys) (drop c.args.at words)) c.args.bindgen.now c.loop-i.i c.loop-i.parts (take (words_left types tys c.loop-i.i) (drop c.loop-i.next words)) _ ended c.loop-i.invariant.flows
 
 pub lift_cases-lift_case-requires : goal.lift_cases-lift_case-requires
 lift_cases-lift_case-requires g t c κs within =
@@ -368,7 +393,7 @@ lift_cases-lift_case-requires g t c κs within =
     (omega (arith, low), (within.0, (within.1, (c.requires.well, (c.requires.down, (below, (serves, (writes, (fits, (c.requires.few, c.requires.enough))))))))))
 
 pub lift_cases-loop-i-init : goal.lift_cases-loop-i-init
-lift_cases-loop-i-init g t c = record { grows = grows_none g.B.Bindgen.meaning c.args.bindgen.now; code = refl; sent = refl; rest = λ new h. h }
+lift_cases-loop-i-init g t c = record { grows = grows_none g.B.Bindgen.meaning c.args.bindgen.now; code = refl; flows = λ new gives h. subst (λ os. Flows g.B.Bindgen.meaning c.args.resolve.now.types (blocks_of_cases (length c.args.slots.now) (lift_case c.args.resolve.now.types c.args.slots.now) (lift_code c.args.resolve.now.types) c.args.payloads.now) os gives c.args.bindgen.now new) (append-nil c.args.words.now) h; rest = λ new h. h }
 
 pub lift_cases-loop-i-preserved : goal.lift_cases-loop-i-preserved
 lift_cases-loop-i-preserved g t c =
@@ -380,11 +405,14 @@ lift_cases-loop-i-preserved g t c =
     let short : i < length payloads = omega (arith, c.loop-i-test.true) in
     let here = c.in_ok-lift_case.ensures.lifts in
     let p = get_or payloads i None in
-    let sent = subst (λ (ds : List WasmType). Sends m types (lift_case types ds i p (option_map (lift_code types) p)) c.loop-i.bindgen c.lift_case.new.bindgen) c.requires.shared (c.in_ok-lift_case.ensures.sends i) in
+    let slots = c.args.slots.now in
+    let words = c.args.words.now in
+    let made : Option WitType → Option (WitType × Flow) = option_map (λ ty. (ty, lift_code types ty)) in
+    let flow = subst (λ os. Flows m types (in_block (lift_case types slots i (made p))) os [] c.loop-i.bindgen c.lift_case.new.bindgen) (sym (append-nil words)) (c.in_ok-lift_case.ensures.flows i) in
     record {
       grows = grows_alike m _ _ _ c.loop-i.invariant.code c.loop-i.invariant.grows here.adds.grows;
       code = here.adds.code ∙ c.loop-i.invariant.code;
-      sent = sends_next m types (λ n payload. lift_case types (shared_slots types payloads) n payload (option_map (lift_code types) payload)) payloads i None _ _ _ short c.loop-i.invariant.sent sent;
+      flows = flows_next m types (length slots) (λ payload. 0) (λ n payload. in_block (lift_case types slots n (made payload))) words payloads words c.args.bindgen.now i None [] [] [] [] [] _ _ short c.requires.enough refl refl flow c.loop-i.invariant.flows;
       rest = lifts_next m g.met.B.Bindgen.sound r c.requires.down c.args.id payloads i None c.args.slots.now c.args.words.now _ _ _ short c.loop-i.invariant.rest here;
     }
 
@@ -397,7 +425,7 @@ lift_cases-returns g t c =
     let ended : length payloads ≤ c.loop-i.i = omega (arith, c.loop-i-test.false) in
     record {
       lifts = lifts_done m g.met.B.Bindgen.sound r c.requires.down c.args.id payloads c.loop-i.i c.args.slots.now c.args.words.now _ _ ended c.loop-i.invariant.rest;
-      sends = sends_last m types (λ n payload. lift_case types (shared_slots types payloads) n payload (option_map (lift_code types) payload)) payloads c.loop-i.i _ _ ended c.loop-i.invariant.sent;
+      flows = flows_last m types (length c.args.slots.now) (λ payload. 0) (λ n payload. in_block (lift_case types c.args.slots.now n (option_map (λ ty. (ty, lift_code types ty)) payload))) c.args.words.now payloads c.args.words.now c.args.bindgen.now c.loop-i.i [] [] _ ended c.loop-i.invariant.flows;
     }
 
 pub lift_payload-slice_bounds-push_copies-end : goal.lift_payload-slice_bounds-push_copies-end
@@ -477,17 +505,21 @@ lift_payload-returns g t c =
     let casts = subst (λ n. CastsAll m (take n slots) words (take n shared) used b casted) is
     (subst (λ (xs : List WasmType). CastsAll m (take f.count slots) xs (take f.count shared) used b casted) told
     (subst (λ (os : List g.row.B-Operand.Denot). CastsAll m (take f.count slots) (take f.count f.words) os used b casted) first c.in_ok-used.ensures.casts)) in
-    let cast_sent = subst (λ n. Sends m types (cast_code (take n slots) words) b casted) is (subst (λ (xs : List WasmType). Sends m types (cast_code (take f.count slots) xs) b casted) told c.in_ok-used.ensures.sends) in
+    let Cast : ℕ → List WasmType → List g.row.B-Operand.Denot → Type 0 = λ n xs os. Flows m types (cast_code (take n slots) xs) os used b casted in
+    let cast_flow : Cast (length words) words (take (length words) shared) = subst (λ n. Cast n words (take n shared)) is (subst (λ xs. Cast f.count xs (take f.count shared)) told (subst (λ os. Cast f.count (take f.count f.words) os) first c.in_ok-used.ensures.flows)) in
     let got = subst (λ (os : List g.row.B-Operand.Denot). (part : List g.row.B-Operand.Denot) × (os ≡ part ++ drop c.in_ok-lifted.lifted.next os) × LiftsFlat m (shape_of types ty) part x casted lifted) c.as_slice.ensures c.in_ok-lifted.ensures.lifts in
     let many : length got.0 ≡ length used = got.2.fits ∙ sym (casts.fits ∙ length-take-le (length words) slots most) in
     let whole = subst (λ (os : List g.row.B-Operand.Denot). LiftsFlat m (shape_of types ty) os x casted lifted) (all_used used got.0 (drop c.in_ok-lifted.lifted.next used) got.1 many) got.2 in
     let some = payload_some c.args.resolve.now c.requires.well ty c.requires.below in
     let close = c.in_ok-close_payload.ensures in
-    let with_value = sends_both m types (cast_code (take (length words) slots) words) (lift_code types ty) b casted lifted cast_sent c.in_ok-lifted.ensures.sends in
-    let inside = sends_both m types (cast_code (take (length words) slots) words ++ lift_code types ty) (closes ∷ []) b lifted closed with_value (x ∷ [], closed, close, refl) in
+    let part = lift_code types ty in
+    let all : take (word_count types ty) (drop 0 c.as_slice.result.now) ≡ used = ap (take (word_count types ty)) c.as_slice.ensures ∙ take_all (word_count types ty) used (omega (arith, casts.fits, length-take-le (length words) slots most)) in
+    let value = subst (λ os. Flows m types part os (x ∷ []) casted lifted) all c.in_ok-lifted.ensures.flows in
+    let inside = flows_then m types (leading (length words) >>> cast_code (take (length words) slots) words) part shared used (x ∷ []) b casted lifted
+    (flows_then m types (leading (length words)) (cast_code (take (length words) slots) words) shared (take (length words) shared) used b b casted (refl, refl) cast_flow) value in
     record {
       lifts = full_lifts m sound (shape_of types ty) slots a b casted lifted closed shared used x c.requires.fits some c.requires.enough opens casts whole close;
-      sends = λ n. (b, opens, inside);
+      flows = λ n. flows_block m types (lift_case types slots n (Some (ty, part))) shared (x ∷ []) a b lifted closed opens inside close;
     }
 
 pub lift_variant-flat_types-flat-requires-clause-below : goal.lift_variant-flat_types-flat-requires-clause-below
@@ -543,13 +575,21 @@ lift_variant-returns g t c =
     let front : drop at words ≡ tag ∷ drop (at + 1) words = drop-same words words at tag c.index-words-at.result refl short c.index-words-at.is c.in_ok-tag.ensures in
     let blocks = subst (λ (ds : List WasmType). LiftsCases m (payloads_in (shapes types) (payloads_of kind)) (result_counts (payloads_of kind)) ds shared c.args.bindgen.now c.lift_cases.new.bindgen) told
     (subst (λ (ps : List (Option WitType)). LiftsCases m (payloads_in (shapes types) ps) (result_counts ps) (take (f.count - 1) (drop 1 f.words)) shared c.args.bindgen.now c.lift_cases.new.bindgen) same c.in_ok-lift_cases.ensures.lifts) in
-    let sent = subst (λ (ps : List (Option WitType)). Sends m types (each (λ n payload. lift_case types (shared_slots types ps) n payload (option_map (lift_code types) payload)) 0 ps) c.args.bindgen.now c.lift_cases.new.bindgen) same c.in_ok-lift_cases.ensures.sends in
+    let slots = shared_slots types (payloads_of kind) in
+    let blocks_code : Flow = blocks_of_cases (length slots) (lift_case types slots) (lift_code types) (payloads_of kind) in
+    let flow = subst (λ (ds : List WasmType). Flows m types (blocks_of_cases (length ds) (lift_case types ds) (lift_code types) (payloads_of kind)) shared [] c.args.bindgen.now c.lift_cases.new.bindgen) told
+    (subst (λ (ps : List (Option WitType)). Flows m types (blocks_of_cases (length (take (f.count - 1) (drop 1 f.words))) (lift_case types (take (f.count - 1) (drop 1 f.words))) (lift_code types) ps) shared [] c.args.bindgen.now c.lift_cases.new.bindgen) same c.in_ok-lift_cases.ensures.flows) in
     let e = subst (λ (os : List g.row.B-Operand.Denot). Emits m types (case_lifting kind c.args.id) os (x ∷ []) c.lift_cases.new.bindgen c.send_one.new.bindgen) c.in_ok-operands.ensures
     (subst (λ (i : Instruction). Emits m types i c.in_ok-operands.operands (x ∷ []) c.lift_cases.new.bindgen c.send_one.new.bindgen) c.case_lifting.ensures c.in_ok-operand.ensures) in
+    let whole : word_count types (wit.Id c.args.id) ≡ suc (length shared) = variant_words types c.requires.down c.args.id kind here c.requires.cases ∙ ap suc (sym enough) in
+    let reads : take (word_count types (wit.Id c.args.id)) (drop at words) ≡ tag ∷ shared = ap (take (word_count types (wit.Id c.args.id))) (front ∙ ap (λ os. tag ∷ os) split) ∙ take_at (tag ∷ shared) (drop (at + f.count) words) (word_count types (wit.Id c.args.id)) (sym whole) in
     record {
       next = ap (λ n. at + n) (is ∙ sym (variant_words types c.requires.down c.args.id kind here c.requires.cases));
       lifts = (tag ∷ shared, front ∙ ap (λ os. tag ∷ os) split, variant_lifts m g.met.B.Bindgen.sound r c.requires.down c.args.id _ _ shared kind _ tag x here c.requires.cases enough blocks e);
-      sends = sends_as m types _ _ _ _ (lift_variant_code types c.requires.down c.args.id here.entry here.stands kind here.kind c.requires.cases) (sends_both m types _ _ _ _ _ sent (sends_one m types (case_lifting kind c.args.id) _ _ _ _ e));
+      flows = subst (λ os. Flows m types (lift_code types (wit.Id c.args.id)) os (x ∷ []) c.args.bindgen.now c.send_one.new.bindgen) (sym reads) (flows_as m types _ _ _ _ _ _ (lift_variant_code types c.requires.down c.args.id here.entry here.stands kind here.kind c.requires.cases)
+          (flows_then m types (both (behind 1 >>> blocks_code) (leading 1)) (emit (case_lifting kind c.args.id)) (tag ∷ shared) (tag ∷ []) (x ∷ []) c.args.bindgen.now c.lift_cases.new.bindgen c.send_one.new.bindgen
+          (flows_both m types (behind 1 >>> blocks_code) (leading 1) (tag ∷ shared) [] (tag ∷ []) c.args.bindgen.now c.lift_cases.new.bindgen c.lift_cases.new.bindgen
+          (flows_then m types (behind 1) blocks_code (tag ∷ shared) shared [] c.args.bindgen.now c.args.bindgen.now c.lift_cases.new.bindgen (refl, refl) flow) (refl, refl)) e));
     }
 
 pub lift_case-lift_payload-requires : goal.lift_case-lift_payload-requires
@@ -572,7 +612,7 @@ lift_case-returns-in_ok-lift_bare-in-None g t c =
     let Lifts : Option WitType → Type 0 = λ p. LiftsCases m (more (payload_in (shapes types) p) none) (result_counts (p ∷ [])) slots words c.args.bindgen.now new in
     record {
       lifts = subst Lifts (sym c.in-None.is) (c.in_ok-lift_bare-in-None.ensures.lifts slots words);
-      sends = λ n. subst (λ (p : Option WitType). Sends m types (lift_case types slots n p (option_map (lift_code types) p)) c.args.bindgen.now new) (sym c.in-None.is) (c.in_ok-lift_bare-in-None.ensures.sends types);
+      flows = λ n. subst (λ (p : Option WitType). Flows m types (in_block (lift_case types slots n (option_map (λ ty. (ty, lift_code types ty)) p))) words [] c.args.bindgen.now new) (sym c.in-None.is) (c.in_ok-lift_bare-in-None.ensures.flows types words);
     }
 
 pub lift_case-returns-in_ok-lift_payload-in-Some : goal.lift_case-returns-in_ok-lift_payload-in-Some
@@ -584,7 +624,7 @@ lift_case-returns-in_ok-lift_payload-in-Some g t c =
     let Lifts : Option WitType → Type 0 = λ p. LiftsCases m (more (payload_in (shapes types) p) none) (result_counts (p ∷ [])) slots c.args.words.now c.args.bindgen.now new in
     record {
       lifts = subst Lifts (sym c.in-Some.is) c.in_ok-lift_payload-in-Some.ensures.lifts;
-      sends = λ n. subst (λ (p : Option WitType). Sends m types (lift_case types slots n p (option_map (lift_code types) p)) c.args.bindgen.now new) (sym c.in-Some.is) (c.in_ok-lift_payload-in-Some.ensures.sends n);
+      flows = λ n. subst (λ (p : Option WitType). Flows m types (in_block (lift_case types slots n (option_map (λ ty. (ty, lift_code types ty)) p))) c.args.words.now [] c.args.bindgen.now new) (sym c.in-Some.is) (c.in_ok-lift_payload-in-Some.ensures.flows n);
     }
 
 pub lift_variant-overflow_add-next : goal.lift_variant-overflow_add-next

@@ -1,8 +1,8 @@
-use Rattle.std.proofs.Common.{false, ap, ◌∙◌}
+use Rattle.std.proofs.Common.{false, [], ap, ◌∙◌}
 use Rattle.wit_layout.specs.declared.signature.AbiVariant.TheVariants.{GuestExport}
 use Rattle.abi_bindgen.specs.Code.{call_code}
 use Rattle.func_gen.specs.declared.function_bindgen.Code.{Code}
-use Rattle.func_gen.proofs.StillSent.{still_sent}
+use Rattle.func_gen.proofs.StillFlows.{still_flows}
 use Rattle.wrapper_closing.specs.Bodies.{is_plain_call}
 use Rattle.wrapper_closing.specs.Declares.{Area, declare_none}
 use Rattle.wrapper_closing.proofs.ExportDeclares.{export_closed, export_declares}
@@ -20,16 +20,16 @@ call-requires-clause-writes c = made_writes c.args.resolve.now.types c.args.func
 
 pub finish-body-requires-clause-closed : goal.finish-body-requires-clause-closed
 finish-body-requires-clause-closed c =
-    export_closed c.args.resolve.now.types c.args.func c.in_ok-bindgen.bindgen c.call.new.bindgen c.in_ok-call.ensures.sends (none_open c.in_ok-bindgen.bindgen c.in_ok-bindgen.ensures.begins.closed)
+    export_closed c.args.resolve.now.types c.args.func [] c.in_ok-bindgen.bindgen c.call.new.bindgen c.in_ok-call.ensures.flows (none_open c.in_ok-bindgen.bindgen c.in_ok-bindgen.ensures.begins.closed)
 
 pub finish-body-requires-clause-few : goal.finish-body-requires-clause-few
-finish-body-requires-clause-few c = export_few c.args.resolve.now.types c.args.func c.in_ok-bindgen.bindgen c.call.new.bindgen c.in_ok-call.ensures.sends
+finish-body-requires-clause-few c = export_few c.args.resolve.now.types c.args.func [] c.in_ok-bindgen.bindgen c.call.new.bindgen c.in_ok-call.ensures.flows
 
 pub returns-clause-tables : goal.returns-clause-tables
 returns-clause-tables c =
     let types = c.args.resolve.now.types in
     handed_back false c.args.parts c.in_ok-bindgen.bindgen c.call.new.bindgen c.finish-body.result.1 c.in_ok-bindgen.ensures.made
-    (still_sent types (call_code types GuestExport c.args.func) c.in_ok-bindgen.bindgen c.call.new.bindgen c.in_ok-call.ensures.sends) c.finish-body.ensures.tables
+    (still_flows types (call_code types GuestExport c.args.func) [] [] c.in_ok-bindgen.bindgen c.call.new.bindgen c.in_ok-call.ensures.flows) c.finish-body.ensures.tables
 
 pub returns-clause-makes : goal.returns-clause-makes
 returns-clause-makes c =
@@ -39,14 +39,14 @@ returns-clause-makes c =
     let made = c.in_ok-bindgen.ensures.made in
     let sent = c.in_ok-call.ensures in
     let body = c.finish-body.ensures.body in
-    let plain = export_declares types c.args.func old new sent.sends (none_open old c.in_ok-bindgen.ensures.begins.closed) (ap (λ (k : Code). k.stmts) made.empty) made.unfinished in
+    let plain = export_declares types c.args.func [] old new sent.flows (none_open old c.in_ok-bindgen.ensures.begins.closed) (ap (λ (k : Code). k.stmts) made.empty) made.unfinished in
     record {
       old = old;
       new = new;
       made = made;
       many = c.requires.many;
       calls = sent.calls;
-      sends = sent.sends;
+      flows = sent.flows;
       body_of = body;
       method = ap is_plain_call body.call ∙ plain.0;
       plain = ap (declare_none Area) body.stmts ∙ plain.1;

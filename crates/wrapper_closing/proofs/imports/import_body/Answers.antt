@@ -1,9 +1,10 @@
-use Rattle.std.proofs.Common.{true, ap, ◌∙◌}
+use Rattle.std.proofs.Common.{true, [], ap, ◌∙◌}
 use Rattle.wit_layout.specs.declared.signature.AbiVariant.TheVariants.{GuestImport}
 use Rattle.abi_bindgen.specs.Code.{call_code}
 use Rattle.func_gen.specs.declared.function_bindgen.Code.{Code}
-use Rattle.func_gen.proofs.StillSent.{still_sent}
-use Rattle.wrapper_closing.proofs.CallsKept.{import_closed, import_uncalled}
+use Rattle.func_gen.proofs.StillFlows.{still_flows}
+use Rattle.wrapper_closing.proofs.CallsKept.{import_uncalled}
+use Rattle.wrapper_closing.proofs.ImportDeclares.{import_closed}
 use Rattle.wrapper_closing.proofs.HandedBack.{handed_back}
 use Rattle.wrapper_closing.proofs.Returned.{import_few}
 use Rattle.wrapper_closing.proofs.StepsDeclare.{none_open}
@@ -18,16 +19,16 @@ call-requires-clause-writes c = made_writes c.args.resolve.now.types c.args.func
 
 pub finish-body-requires-clause-closed : goal.finish-body-requires-clause-closed
 finish-body-requires-clause-closed c =
-    import_closed c.args.resolve.now.types c.args.func c.in_ok-bindgen.bindgen c.call.new.bindgen c.in_ok-call.ensures.sends (none_open c.in_ok-bindgen.bindgen c.in_ok-bindgen.ensures.begins.closed)
+    import_closed c.args.resolve.now.types c.args.func [] c.in_ok-bindgen.bindgen c.call.new.bindgen c.in_ok-call.ensures.flows (none_open c.in_ok-bindgen.bindgen c.in_ok-bindgen.ensures.begins.closed)
 
 pub finish-body-requires-clause-few : goal.finish-body-requires-clause-few
-finish-body-requires-clause-few c = import_few c.args.resolve.now.types c.args.func c.in_ok-bindgen.bindgen c.call.new.bindgen c.in_ok-call.ensures.sends
+finish-body-requires-clause-few c = import_few c.args.resolve.now.types c.args.func [] c.in_ok-bindgen.bindgen c.call.new.bindgen c.in_ok-call.ensures.flows
 
 pub returns-clause-tables : goal.returns-clause-tables
 returns-clause-tables c =
     let types = c.args.resolve.now.types in
     handed_back true c.args.parts c.in_ok-bindgen.bindgen c.call.new.bindgen c.finish-body.result.1 c.in_ok-bindgen.ensures.made
-    (still_sent types (call_code types GuestImport c.args.func) c.in_ok-bindgen.bindgen c.call.new.bindgen c.in_ok-call.ensures.sends) c.finish-body.ensures.tables
+    (still_flows types (call_code types GuestImport c.args.func) [] [] c.in_ok-bindgen.bindgen c.call.new.bindgen c.in_ok-call.ensures.flows) c.finish-body.ensures.tables
 
 pub returns-clause-makes : goal.returns-clause-makes
 returns-clause-makes c =
@@ -43,7 +44,7 @@ returns-clause-makes c =
       made = made;
       many = c.requires.many;
       calls = sent.calls;
-      sends = sent.sends;
+      flows = sent.flows;
       body_of = body;
-      headless = body.call ∙ import_uncalled types c.args.func old new sent.sends (none_open old c.in_ok-bindgen.ensures.begins.closed) (ap (λ (k : Code). k.call) made.empty);
+      headless = body.call ∙ import_uncalled types c.args.func [] old new sent.flows (none_open old c.in_ok-bindgen.ensures.begins.closed) (ap (λ (k : Code). k.call) made.empty);
     }

@@ -1,13 +1,13 @@
-use Rattle.std.proofs.Common.{◌≤◌, false, sym, ap, ◌∙◌, subst, arith}
+use Rattle.std.proofs.Common.{◌≤◌, false, [], sym, ap, ◌∙◌, subst, arith}
 use Rattle.abi_bindgen.specs.Code.{post_return_code}
 use Rattle.func_gen.specs.declared.function_bindgen.Code.{Code}
-use Rattle.func_gen.proofs.StillSent.{still_sent}
+use Rattle.func_gen.proofs.StillFlows.{still_flows}
 use Rattle.wit_model.proofs.WellFormedLemmas.{types_go_down}
 use Rattle.wit_layout.proofs.SignatureSteps.{result_in_table}
-use Rattle.wrapper_closing.proofs.CallsKept.{post_return_closed, post_return_uncalled}
+use Rattle.wrapper_closing.proofs.CallsKept.{post_return_uncalled}
 use Rattle.wrapper_closing.proofs.HandedBack.{handed_back}
 use Rattle.wrapper_closing.proofs.Returned.{GivesFew}
-use Rattle.wrapper_closing.proofs.StepsDeclare.{none_open}
+use Rattle.wrapper_closing.proofs.StepsDeclare.{closed_still, none_open}
 use Rattle.wrapper_closing.proofs.post_returns.post_return_body.Goals as goal
 
 pub post_return-requires-clause-down : goal.post_return-requires-clause-down
@@ -18,7 +18,7 @@ post_return-requires-clause-below c = result_in_table c.args.resolve.now c.args.
 
 pub finish-body-requires-clause-closed : goal.finish-body-requires-clause-closed
 finish-body-requires-clause-closed c =
-    post_return_closed c.args.resolve.now.types c.args.func.now.result c.in_ok-bindgen.bindgen c.post_return.new.bindgen c.in_ok-post_return.ensures.sends (none_open c.in_ok-bindgen.bindgen c.in_ok-bindgen.ensures.begins.closed)
+    closed_still c.args.resolve.now.types (post_return_code c.args.resolve.now.types c.args.func.now.result) [] [] c.in_ok-bindgen.bindgen c.post_return.new.bindgen c.in_ok-post_return.ensures.flows (none_open c.in_ok-bindgen.bindgen c.in_ok-bindgen.ensures.begins.closed)
 
 pub finish-body-requires-clause-few : goal.finish-body-requires-clause-few
 finish-body-requires-clause-few c = let none : 0 ≤ 1 = omega arith in subst GivesFew (sym c.in_ok-post_return.ensures.frees.returned) none
@@ -27,7 +27,7 @@ pub returns-clause-tables : goal.returns-clause-tables
 returns-clause-tables c =
     let types = c.args.resolve.now.types in
     handed_back false c.args.parts c.in_ok-bindgen.bindgen c.post_return.new.bindgen c.finish-body.result.1 c.in_ok-bindgen.ensures.made
-    (still_sent types (post_return_code types c.args.func.now.result) c.in_ok-bindgen.bindgen c.post_return.new.bindgen c.in_ok-post_return.ensures.sends) c.finish-body.ensures.tables
+    (still_flows types (post_return_code types c.args.func.now.result) [] [] c.in_ok-bindgen.bindgen c.post_return.new.bindgen c.in_ok-post_return.ensures.flows) c.finish-body.ensures.tables
 
 pub returns-clause-makes : goal.returns-clause-makes
 returns-clause-makes c =
@@ -42,7 +42,7 @@ returns-clause-makes c =
       new = new;
       made = made;
       frees = sent.frees;
-      sends = sent.sends;
+      flows = sent.flows;
       body_of = body;
-      headless = body.call ∙ post_return_uncalled types c.args.func.now.result old new sent.sends (none_open old c.in_ok-bindgen.ensures.begins.closed) (ap (λ (k : Code). k.call) made.empty);
+      headless = body.call ∙ post_return_uncalled types c.args.func.now.result [] old new sent.flows (none_open old c.in_ok-bindgen.ensures.begins.closed) (ap (λ (k : Code). k.call) made.empty);
     }

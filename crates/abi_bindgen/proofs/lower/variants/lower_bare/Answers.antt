@@ -1,11 +1,11 @@
-use Rattle.std.proofs.Common.{ℤ, pos, List, [], ◌∷◌, refl, subst}
+use Rattle.std.proofs.Common.{ℤ, pos, None, List, [], ◌∷◌, subst}
 use Rattle.abi_bindgen.specs.declared.instruction.Instruction.TheVariants.{I32Const}
 use Rattle.abi_bindgen.specs.Blocks.{Finishes}
-use Rattle.abi_bindgen.specs.Code.{zero_code}
+use Rattle.abi_bindgen.specs.Code.{lower_case, zero_code}
+use Rattle.abi_bindgen.specs.Flow.{emit}
 use Rattle.abi_bindgen.specs.Instructions.{Emits}
-use Rattle.abi_bindgen.specs.Sent.{closes}
 use Rattle.abi_bindgen.proofs.CaseLowers.{bare_lowers}
-use Rattle.abi_bindgen.proofs.SendSteps.{sends_both}
+use Rattle.abi_bindgen.proofs.FlowSteps.{flows_block, flows_both}
 use Rattle.abi_bindgen.proofs.WordBits.{number_signed}
 use Rattle.abi_bindgen.proofs.lower.variants.lower_bare.Goals as goal
 
@@ -23,5 +23,6 @@ returns g c =
     let close = subst (λ (zs : List g.row.B-Operand.Denot). Finishes m (tag ∷ zs) c.zero_words.new.bindgen c.close_case.new.bindgen) c.as_slice.ensures c.in_ok-close_case.ensures in
     record {
       lowers = λ realloc. bare_lowers m g.met.B.Bindgen.sound realloc c.args.number c.args.slots.now types a b _ _ _ tag c.in_ok-zeros.zeros opens const zeros.zeros close;
-      sends = (b, opens, ([], tag ∷ [], c.send_one.new.bindgen, const, sends_both m types (zero_code c.args.slots.now) (closes ∷ []) _ _ _ zeros.sends (tag ∷ c.in_ok-zeros.zeros, c.close_case.new.bindgen, close, refl)));
+      flows = flows_block m types (lower_case types c.args.slots.now c.args.number None) [] (tag ∷ c.in_ok-zeros.zeros) a b c.zero_words.new.bindgen c.close_case.new.bindgen opens
+          (flows_both m types (emit (I32Const (pos c.args.number))) (zero_code c.args.slots.now) [] (tag ∷ []) c.in_ok-zeros.zeros b c.send_one.new.bindgen c.zero_words.new.bindgen const zeros.flows) close;
     }

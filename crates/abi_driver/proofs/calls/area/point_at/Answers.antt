@@ -1,4 +1,4 @@
-use Rattle.abi_driver.proofs.AreaAsked.{asks_for, is_power, sends_asking}
+use Rattle.abi_driver.proofs.AreaAsked.{asks_for, is_power, flows_asking}
 use Rattle.abi_driver.proofs.LowPlaces.{sized, small_size}
 use Rattle.abi_driver.proofs.calls.area.point_at.Goals as goal
 
@@ -29,5 +29,5 @@ returns g c =
     let filled = c.sizes-sizes.ensures types c.requires.knows in
     record {
       points = asks_for m types c.args.ty c.size-size.result c.align-align.result _ _ _ (c.size-size.ensures types filled) (c.align-align.ensures types filled) c.in_ok-operand.ensures;
-      sends = sends_asking m types c.args.ty c.size-size.result c.align-align.result _ _ _ (c.size-size.ensures types filled) (c.align-align.ensures types filled) c.in_ok-operand.ensures;
+      flows = flows_asking m types c.args.ty c.size-size.result c.align-align.result _ _ _ (c.size-size.ensures types filled) (c.align-align.ensures types filled) c.in_ok-operand.ensures;
     }

@@ -1,6 +1,6 @@
 use Rattle.std.proofs.Common.{arith}
 use mathlib.Core.Logic.{inr}
-use Rattle.abi_driver.proofs.AreaAsked.{asks_for_record, record_is_power, sends_asking_record}
+use Rattle.abi_driver.proofs.AreaAsked.{asks_for_record, record_is_power, flows_asking_record}
 use Rattle.abi_driver.proofs.LowPlaces.{small_fits}
 use Rattle.abi_driver.proofs.RecordPlaces.{have_places}
 use Rattle.abi_driver.proofs.calls.area.point_at_record.Goals as goal
@@ -32,5 +32,5 @@ returns g c =
     let filled = c.sizes-sizes.ensures types c.requires.knows in
     record {
       points = asks_for_record m types tys _ _ _ _ _ (c.record_of-align.ensures.size types filled) (c.record_of-align.ensures.align types filled) c.in_ok-operand.ensures;
-      sends = sends_asking_record m types tys _ _ _ _ _ (c.record_of-align.ensures.size types filled) (c.record_of-align.ensures.align types filled) c.in_ok-operand.ensures;
+      flows = flows_asking_record m types tys _ _ _ _ _ (c.record_of-align.ensures.size types filled) (c.record_of-align.ensures.align types filled) c.in_ok-operand.ensures;
     }

@@ -1,14 +1,15 @@
-use Rattle.std.proofs.Common.{◌<◌, ◌≤◌, ◌∷◌, List, length, get_or, slice_index, false, refl, sym, ◌∙◌, ap, subst, arith}
+use Rattle.std.proofs.Common.{◌<◌, ◌≤◌, ◌∷◌, List, length, get_or, slice_index, false, refl, sym, ◌∙◌, ap, subst, arith, ℕ, []}
 use Rattle.std.proofs.lemmas.List.{drop_more}
 use Rattle.wit_model.specs.declared.size.ArchitectureSize.{ArchitectureSize}
+use Rattle.wit_model.specs.declared.types.WitType.{WitType}
 use Rattle.wit_model.specs.declared.types.WitType.TheVariants as wit
 use Rattle.wit_layout.specs.Sizes.{field_offsets}
 use Rattle.wit_layout.specs.Told.{IsPairOf}
 use Rattle.wit_layout.specs.Tree.{record_of}
 use Rattle.abi_bindgen.specs.declared.instruction.Instruction.TheVariants as instruction
-use Rattle.abi_bindgen.specs.Code.{place_in, store_code}
+use Rattle.abi_bindgen.specs.Code.{store_code, argument_place}
 use Rattle.abi_bindgen.specs.Frees.{nowhere}
-use Rattle.abi_bindgen.specs.Sent.{sends}
+use Rattle.abi_bindgen.specs.Flow.{Flow, emit, leading, both, alone, ◌>>>◌}
 use Rattle.abi_driver.proofs.ArgumentSteps.{within_count}
 use Rattle.abi_bindgen.proofs.Serving.{part_served}
 use Rattle.abi_driver.proofs.LowPlaces.{small_fits, small_part}
@@ -17,12 +18,12 @@ use Rattle.abi_driver.proofs.RecordPlaces.{have_places, record_place}
 use Rattle.abi_driver.proofs.RecordStores.{rest_last, rest_next}
 use Rattle.abi_bindgen.proofs.Records.{part_below_within}
 use Rattle.abi_bindgen.proofs.Runs.{adds_both, adds_same}
-use Rattle.abi_bindgen.proofs.SendSteps.{sends_as, sends_last, sends_next, sends_then}
 use Rattle.abi_bindgen.proofs.Writing.{one_written, writes_later}
+use Rattle.abi_bindgen.proofs.FlowSteps.{flows_as, flows_then, flows_both, flows_alone, flows_next, flows_last}
 use Rattle.abi_driver.proofs.calls.area.store_at.Goals as goal
 
 pub loop-i-init : goal.loop-i-init
-loop-i-init g c = record { adds = adds_same g.B.Bindgen.meaning c.args.bindgen.now; sent = refl; rest = λ new h. h }
+loop-i-init g c = record { adds = adds_same g.B.Bindgen.meaning c.args.bindgen.now; flows = λ new gives h. h; rest = λ new h. h }
 
 pub argument-requires : goal.argument-requires
 argument-requires g c =
@@ -71,10 +72,19 @@ loop-i-preserved g c =
     let filled = c.sizes-sizes.ensures types c.requires.knows in
     let pair = subst (λ (ps : List ArchitectureSize). IsPairOf (get_or ps i nowhere) (λ w. slice_index (field_offsets w (record_of types tys)) i)) (sym c.as_slice.ensures) (c.in_ok-places.ensures.each types i nowhere filled short) in
     let here = ap (store_code types false (get_or tys i wit.Bool)) (sym (pair_is (get_or c.as_slice.result.now i nowhere) (λ w. slice_index (field_offsets w (record_of types tys)) i) pair)) in
-    let code = sends_then m types (instruction.GetArg i) _ _ _ _ _ _ read (sends_as m types _ _ _ _ here c.in_ok-store_type.ensures.sends) in
+    let address = c.args.address.now in
+    let value = c.in_ok-value.value in
+    let before = c.loop-i.bindgen in
+    let taken = c.argument.new.bindgen in
+    let after = c.store_type.new.bindgen in
+    let get : ℕ → Flow = λ n. both (leading 1) (alone (emit (instruction.GetArg n))) in
+    let code : ℕ → WitType → Flow = λ n ty. get n >>> store_code types false ty (argument_place types tys n) in
+    let store = flows_as m types (store_code types false (get_or tys i wit.Bool) (get_or c.as_slice.result.now i nowhere)) (store_code types false (get_or tys i wit.Bool) (argument_place types tys i)) (address ∷ value ∷ []) [] taken after here c.in_ok-store_type.ensures.flows in
+    let got = flows_both m types (leading 1) (alone (emit (instruction.GetArg i))) (address ∷ []) (address ∷ []) (value ∷ []) before before taken (refl, refl) (flows_alone m types (emit (instruction.GetArg i)) (address ∷ []) (value ∷ []) before taken read) in
+    let one = flows_then m types (get i) (store_code types false (get_or tys i wit.Bool) (argument_place types tys i)) (address ∷ []) (address ∷ value ∷ []) [] before taken after got store in
     record {
       adds = adds_both m _ _ _ c.loop-i.invariant.adds (adds_both m _ _ _ c.in_ok-value.ensures.adds c.in_ok-store_type.ensures.stores.adds);
-      sent = sends_next m types (λ n ty. sends (instruction.GetArg n) ∷ store_code types false ty (place_in (record_of types tys) n)) tys i wit.Bool _ _ _ short c.loop-i.invariant.sent code;
+      flows = flows_next m types 1 (λ ty. 0) code (address ∷ []) tys (address ∷ []) c.args.bindgen.now i wit.Bool [] [] [] [] [] before after short refl refl refl one c.loop-i.invariant.flows;
       rest = rest_next m sound types tys c.args.address.now (get_or c.as_slice.result.now i nowhere) i _ _ _ _ (get_or tys i wit.Bool) c.in_ok-value.value
           (drop_more tys i wit.Bool short) read
           (behind_next m.width types tys i wit.Bool short)
@@ -90,5 +100,5 @@ returns g c =
     let ended : length tys ≤ c.loop-i.i = omega (arith, c.loop-i-test.false) in
     record {
       stores = rest_last m g.met.B.Bindgen.sound types tys c.args.address.now c.loop-i.i _ _ ended c.loop-i.invariant.rest;
-      sends = sends_last m types (λ n ty. sends (instruction.GetArg n) ∷ store_code types false ty (place_in (record_of types tys) n)) tys c.loop-i.i _ _ ended c.loop-i.invariant.sent;
+      flows = flows_last m types 1 (λ ty. 0) (λ n ty. both (leading 1) (alone (emit (instruction.GetArg n))) >>> store_code types false ty (argument_place types tys n)) (c.args.address.now ∷ []) tys (c.args.address.now ∷ []) c.args.bindgen.now c.loop-i.i [] [] _ ended c.loop-i.invariant.flows;
     }

@@ -1,6 +1,6 @@
-use Rattle.std.proofs.Common.{◌≡◌, ◌<◌, ◌^◌, [], ◌∷◌, ◌++◌, List, length, map, refl, sym, ap, ◌∙◌, subst, arith}
+use Rattle.std.proofs.Common.{◌≡◌, ◌<◌, ◌^◌, [], List, length, map, refl, sym, ap, ◌∙◌, subst, arith}
 use Rattle.std.specs.List.{list_all}
-use Rattle.std.proofs.lemmas.List.{length-map}
+use Rattle.std.proofs.lemmas.List.{length-map, nil_from_length}
 use Rattle.std.proofs.lemmas.List.Folds.{list_all-map}
 use Rattle.wit_model.specs.TypeOrder.{type_below}
 use Rattle.wit_model.specs.declared.function.Param.{Param}
@@ -14,18 +14,19 @@ use Rattle.wit_layout.specs.Signature.{core_results}
 use Rattle.abi_bindgen.specs.declared.instruction.Instruction.TheVariants.{CallInterface, Return}
 use Rattle.abi_bindgen.specs.Code.{give_code, take_code}
 use Rattle.abi_driver.specs.Exports.{GivesAnswer, TakesArgumentsOver, argument_words}
-use Rattle.abi_bindgen.specs.Instructions.{shapes_of}
+use Rattle.abi_bindgen.specs.Instructions.{shapes_of, Emits}
 use Rattle.abi_bindgen.specs.Laws.{IsCount}
-use Rattle.abi_bindgen.specs.Sent.{sends}
 use Rattle.abi_bindgen.specs.Served.{ServesAll}
 use Rattle.abi_driver.specs.Low.{IsSmallRecord}
 use Rattle.abi_driver.proofs.WordBytes.{few_parts}
 use Rattle.abi_driver.proofs.CallCode.{few_words, given_words}
 use Rattle.abi_driver.proofs.ExportSteps.{calls_export, export_indirect, export_pointer, export_words}
 use Rattle.abi_bindgen.proofs.Records.{count-shapes}
-use Rattle.abi_bindgen.proofs.SendSteps.{sends_as, sends_both, sends_one, sends_then}
 use Rattle.abi_bindgen.specs.Written.{WritesEach}
+use Rattle.abi_bindgen.specs.Flow.{Flow, emit, ◌>>>◌}
+use Rattle.abi_bindgen.specs.Flows.{Flows}
 use Rattle.abi_bindgen.proofs.Writing.{part_later}
+use Rattle.abi_bindgen.proofs.FlowSteps.{flows_as, flows_then}
 use Rattle.abi_driver.proofs.calls.export.call_export.Goals as goal
 
 pub take_arguments-requires-clause-writes : goal.take_arguments-requires-clause-writes
@@ -138,17 +139,23 @@ returns g c =
     let takes = subst (λ (tys : List WitType). TakesArgumentsOver m (shapes_of types tys) values c.args.bindgen.now c.take_arguments.new.bindgen) same c.in_ok-values.ensures.takes in
     let lowers = subst (λ (os : List _). GivesAnswer m (result_shape types f) os given c.send.new.bindgen c.give_answer.new.bindgen) c.as_slice-3.ensures c.in_ok-given.ensures.gives in
     let count : c.len-given_count.result ≡ length (core_results GuestExport (result_words (result_shape types f))) = c.len-given_count.ensures ∙ given_words m types (result_shape types f) _ given _ _ lowers in
-    let end = sends (Return (length (core_results GuestExport (result_words (result_shape types f))))) ∷ [] in
+    let answer = c.in_ok-answer.answer in
+    let start = c.args.bindgen.now in
     let one = c.take_arguments.new.bindgen in
     let two = c.send.new.bindgen in
     let three = c.give_answer.new.bindgen in
     let four = c.send-2.new.bindgen in
-    let taken = sends_as m types (take_code types c.as_slice-2.result.now) (take_code types (map (λ (p : Param). p.ty) f.params)) c.args.bindgen.now one (ap (take_code types) (sym same)) c.in_ok-values.ensures.sends in
-    let last = sends_as m types (sends (Return c.len-given_count.result) ∷ []) end three four (ap (λ n. sends (Return n) ∷ []) (sym count)) (sends_one m types (Return c.len-given_count.result) given _ three four c.in_ok-send.ensures) in
+    let many = length (core_results GuestExport (result_words (result_shape types f))) in
     let args = take_code types (map (λ (p : Param). p.ty) f.params) in
-    let called = sends_then m types (CallInterface c.args.func) values c.in_ok-answer.answer (give_code types f.result) one two three c.in_ok-answer.ensures c.in_ok-given.ensures.sends in
-    let gave = sends_both m types args (sends (CallInterface c.args.func) ∷ give_code types f.result) c.args.bindgen.now one three taken called in
+    let gives = give_code types f.result in
+    let call : Flow = emit (CallInterface c.args.func) in
+    let taken = flows_as m types (take_code types c.as_slice-2.result.now) args [] values start one (ap (take_code types) (sym same)) c.in_ok-values.ensures.flows in
+    let given_flow = subst (λ (os : List _). Flows m types gives os given two three) c.as_slice-3.ensures c.in_ok-given.ensures.flows in
+    let none = nil_from_length c.in_ok-send.field-0 c.in_ok-send.ensures.results in
+    let ended = subst (λ n. Emits m types (Return n) given [] three four) count (subst (λ (os : List _). Emits m types (Return c.len-given_count.result) given os three four) none c.in_ok-send.ensures) in
+    let called = flows_then m types args call [] values answer start one two taken c.in_ok-answer.ensures in
+    let gave = flows_then m types (args >>> call) gives [] answer given start two three called given_flow in
     record {
       calls = calls_export m g.met.B.Bindgen.sound types c.args.func _ _ _ _ _ values c.in_ok-answer.answer given _ c.len-given_count.result takes c.in_ok-answer.ensures c.requires.side lowers c.in_ok-send.ensures;
-      sends = sends_both m types (args ++ (sends (CallInterface c.args.func) ∷ give_code types f.result)) end c.args.bindgen.now three four gave last;
+      flows = flows_then m types (args >>> call >>> gives) (emit (Return many)) [] given [] start three four gave ended;
     }

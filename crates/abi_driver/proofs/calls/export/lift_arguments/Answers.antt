@@ -1,4 +1,4 @@
-use Rattle.std.proofs.Common.{◌≡◌, ◌<◌, ◌≤◌, [], drop, length, get_or, refl, sym, ap, ◌∙◌, arith}
+use Rattle.std.proofs.Common.{◌≡◌, ◌<◌, ◌≤◌, [], append-nil, drop, length, get_or, refl, sym, ap, ◌∙◌, arith, List, subst, ◌++◌}
 use Rattle.std.proofs.lemmas.Bool.{ltb-false}
 use Rattle.std.proofs.lemmas.List.{drop_all, drop_more}
 use Rattle.wit_model.specs.declared.types.WitType.TheVariants as wit
@@ -10,16 +10,18 @@ use Rattle.wrapper_meaning.proofs.LayoutIsTree.{layout_is_tree}
 use Rattle.abi_bindgen.specs.Code.{lift_arguments}
 use Rattle.abi_bindgen.specs.Instructions.{shapes_of}
 use Rattle.abi_bindgen.specs.WordCount.{word_count}
+use Rattle.abi_bindgen.specs.Flow.{leave_none}
+use Rattle.abi_bindgen.specs.Flows.{Flows}
 use Rattle.abi_driver.proofs.ArgumentSteps.{within_words}
-use Rattle.abi_driver.proofs.CallCode as Sent
+use Rattle.abi_driver.proofs.CallCode as Flowing
 use Rattle.abi_driver.proofs.LiftedArguments.{rest_first, rest_last, rest_next, told_within, words_left, words_next}
 use Rattle.abi_bindgen.proofs.WordCounts.{no_more}
 use Rattle.abi_bindgen.proofs.Payloads.{payload_count}
 use Rattle.abi_bindgen.proofs.Records.{part_below_within}
 use Rattle.abi_bindgen.proofs.Runs.{adds_both, adds_same}
-use Rattle.abi_bindgen.proofs.SendSteps.{sends_as}
 use Rattle.abi_bindgen.proofs.Serving.{part_served}
 use Rattle.abi_bindgen.proofs.Writing.{one_written, writes_later}
+use Rattle.abi_bindgen.proofs.FlowSteps.{flows_as}
 use Rattle.abi_driver.proofs.calls.export.lift_arguments.Goals as goal
 
 pub loop-i-init : goal.loop-i-init
@@ -28,7 +30,7 @@ loop-i-init g c =
     record {
       adds = adds_same m c.args.bindgen.now;
       words = omega arith;
-      sent = λ new h. h;
+      flows = λ new gives h. subst (λ (vs : List g.row.B-Operand.Denot). Flows m c.args.resolve.now.types (lift_arguments c.args.resolve.now.types 0 c.args.tys.now) [] (vs ++ gives) c.args.bindgen.now new) (sym c.new-values.ensures) h;
       rest = rest_first m g.met.B.Bindgen.sound c.args.resolve.now.types c.args.tys.now c.new-values.result c.args.bindgen.now c.new-values.ensures;
     }
 
@@ -110,7 +112,7 @@ loop-i-preserved g c =
     record {
       adds = adds_both m _ _ _ inv.adds (adds_both m _ _ _ c.in_ok-words.ensures.reads.adds c.in_ok-value.ensures.lifts.adds);
       words = omega (arith, inv.words, words_next types tys i ty et, c.in_ok-words.ensures.reads.fits, c.in_ok-value.ensures.lifts.fits);
-      sent = Sent.rest_next m types tys i c.loop-i.first c.flat_types-flat.result.count c.in_ok-words.words c.args.bindgen.now c.loop-i.bindgen c.read_words.new.bindgen c.lift_flat.new.bindgen ty et flat c.in_ok-words.ensures.reads.fits c.in_ok-words.ensures.sends c.in_ok-value.ensures.sends inv.sent;
+      flows = Flowing.rest_next m types tys i c.loop-i.first c.flat_types-flat.result.count c.in_ok-words.words c.loop-i.values c.push.new.self c.in_ok-value.value c.args.bindgen.now c.loop-i.bindgen c.read_words.new.bindgen c.lift_flat.new.bindgen ty et flat c.in_ok-words.ensures.reads.fits c.in_ok-push.ensures.ok c.in_ok-words.ensures.flows c.in_ok-value.ensures.flows inv.flows;
       rest = rest_next m sound types tys i c.loop-i.first c.flat_types-flat.result.count c.loop-i.values c.in_ok-words.words c.push.new.self _ _ _ _ ty c.in_ok-value.value et c.in_ok-words.ensures.reads c.in_ok-value.ensures.lifts c.in_ok-push.ensures.ok inv.rest;
     }
 
@@ -122,5 +124,6 @@ returns g c =
     let ended : length tys ≤ c.loop-i.i = omega (arith, c.loop-i-test.false) in
     record {
       lifts = rest_last m g.met.B.Bindgen.sound types tys c.loop-i.i c.loop-i.first c.loop-i.values _ _ ended c.loop-i.invariant.rest;
-      sends = c.loop-i.invariant.sent c.loop-i.bindgen (sends_as m types [] (lift_arguments types c.loop-i.first (drop c.loop-i.i tys)) c.loop-i.bindgen c.loop-i.bindgen (ap (lift_arguments types c.loop-i.first) (drop_all c.loop-i.i tys ended)) refl);
+      flows = subst (λ (vs : List g.row.B-Operand.Denot). Flows m types (lift_arguments types 0 tys) [] vs c.args.bindgen.now c.loop-i.bindgen) (append-nil c.loop-i.values) (c.loop-i.invariant.flows c.loop-i.bindgen []
+          (flows_as m types leave_none (lift_arguments types c.loop-i.first (drop c.loop-i.i tys)) [] [] c.loop-i.bindgen c.loop-i.bindgen (ap (lift_arguments types c.loop-i.first) (drop_all c.loop-i.i tys ended)) (refl, refl)));
     }

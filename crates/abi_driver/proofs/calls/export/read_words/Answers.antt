@@ -17,5 +17,5 @@ loop-i-preserved g c =
     let inv = c.loop-i.invariant in
     record {
       reads = reads_next m g.met.B.Bindgen.sound types c.args.first c.loop-i.i c.loop-i.words c.push.new.self _ _ _ c.in_ok-word.word inv.reads c.in_ok-word.ensures c.in_ok-push.ensures.ok;
-      sent = gets_next m types c.args.first c.loop-i.i c.loop-i.words c.push.new.self _ _ _ c.in_ok-word.word inv.reads.fits c.in_ok-push.ensures.ok inv.sent c.in_ok-word.ensures;
+      flows = gets_next m types c.args.first c.loop-i.i c.loop-i.words c.push.new.self _ _ _ c.in_ok-word.word inv.reads.fits c.in_ok-push.ensures.ok inv.flows c.in_ok-word.ensures;
     }

@@ -9,7 +9,7 @@ use Rattle.abi_bindgen.specs.Instructions.{shapes_of}
 use Rattle.abi_bindgen.specs.Laws.{IsCount}
 use Rattle.abi_driver.proofs.ArgumentSteps.{within_count}
 use Rattle.abi_driver.proofs.RecordArguments.{takes_record, takes_words}
-use Rattle.abi_bindgen.proofs.SendSteps.{sends_as}
+use Rattle.abi_bindgen.proofs.FlowSteps.{flows_as}
 use Rattle.abi_driver.proofs.calls.export.take_arguments.Goals as goal
 
 pub load_arguments-requires-clause-down : goal.load_arguments-requires-clause-down
@@ -39,7 +39,7 @@ returns-then-indirect g c =
     let many = sym c.requires.indirect ∙ c.if-indirect.true in
     record {
       takes = takes_record m g.met.B.Bindgen.sound types (shapes_of types tys) _ _ _ c.in_ok-loaded.ensures.takes many;
-      sends = sends_as m types (take_record_code types tys) (take_code types tys) c.args.bindgen.now c.load_arguments.new.bindgen (ap (λ q. if q then take_record_code types tys else code.lift_arguments types 0 tys) many) c.in_ok-loaded.ensures.sends;
+      flows = flows_as m types (take_record_code types tys) (take_code types tys) [] c.in_ok-loaded.loaded c.args.bindgen.now c.load_arguments.new.bindgen (ap (λ q. if q then take_record_code types tys else code.lift_arguments types 0 tys) many) c.in_ok-loaded.ensures.flows;
     }
 
 pub returns : goal.returns
@@ -50,5 +50,5 @@ returns g c =
     let few = sym c.requires.indirect ∙ c.if-indirect.false in
     record {
       takes = takes_words m g.met.B.Bindgen.sound types (shapes_of types tys) _ _ _ few c.in_ok-values.ensures.lifts;
-      sends = sends_as m types (code.lift_arguments types 0 tys) (take_code types tys) c.args.bindgen.now c.lift_arguments.new.bindgen (ap (λ q. if q then take_record_code types tys else code.lift_arguments types 0 tys) few) c.in_ok-values.ensures.sends;
+      flows = flows_as m types (code.lift_arguments types 0 tys) (take_code types tys) [] c.in_ok-values.values c.args.bindgen.now c.lift_arguments.new.bindgen (ap (λ q. if q then take_record_code types tys else code.lift_arguments types 0 tys) few) c.in_ok-values.ensures.flows;
     }

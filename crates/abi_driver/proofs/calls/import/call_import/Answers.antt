@@ -1,7 +1,7 @@
-use Rattle.std.proofs.Common.{◌≡◌, ◌<◌, ◌^◌, ◌++◌, [], ◌∷◌, List, if◌then◌else◌, length, map, refl, sym, ap, ap₂, ◌∙◌, subst, arith}
+use Rattle.std.proofs.Common.{◌≡◌, ◌<◌, ◌^◌, ◌++◌, [], List, if◌then◌else◌, length, map, refl, sym, ap, ap₂, ◌∙◌, subst, arith}
 use Rattle.std.specs.List.{list_all}
 use Rattle.std.specs.Prelude.{option_to_list}
-use Rattle.std.proofs.lemmas.List.{length-map}
+use Rattle.std.proofs.lemmas.List.{length-map, nil_from_length}
 use Rattle.std.proofs.lemmas.List.Folds.{list_all-map}
 use Rattle.wit_model.specs.TypeOrder.{type_below}
 use Rattle.wit_model.specs.declared.function.Param.{Param}
@@ -11,21 +11,22 @@ use Rattle.wit_layout.proofs.SignatureSteps.{params_in_table, result_in_table}
 use Rattle.wrapper_meaning.specs.Represents.{are_indirect, result_words}
 use Rattle.wrapper_meaning.specs.Shape.{result_shape, shape_of}
 use Rattle.abi_bindgen.specs.declared.instruction.Instruction.TheVariants.{CallWasm, Return}
-use Rattle.abi_bindgen.specs.Code.{pass_code, point_code, read_code}
+use Rattle.abi_bindgen.specs.Code.{pass_code, point_code, read_code, passed_count}
 use Rattle.abi_driver.specs.Imports.{PassesArguments, ReadsAnswer}
 use Rattle.abi_bindgen.specs.Instructions.{Emits, shapes_of}
 use Rattle.abi_bindgen.specs.Laws.{IsCount}
-use Rattle.abi_bindgen.specs.Sent.{sends}
 use Rattle.abi_bindgen.specs.Served.{ServesAll}
 use Rattle.abi_driver.specs.Low.{IsSmallRecord}
 use Rattle.abi_driver.proofs.WordBytes.{few_parts}
 use Rattle.abi_driver.proofs.AreaSteps.{points_grows}
 use Rattle.abi_driver.proofs.CallCode.{few_given, given_count}
 use Rattle.abi_driver.proofs.ExportSteps.{count_mapped}
-use Rattle.abi_driver.proofs.ImportSteps.{calls_import, import_words, indirect_told, one_pointer, pointer_told, words_count}
-use Rattle.abi_bindgen.proofs.SendSteps.{sends_as, sends_both, sends_one, sends_then}
+use Rattle.abi_driver.proofs.ImportSteps.{calls_import, import_words, indirect_told, no_pointer, one_pointer, passed_words, pointer_told, words_count}
 use Rattle.abi_bindgen.specs.Written.{WritesEach}
+use Rattle.abi_bindgen.specs.Flow.{Flow, emit, behind, both, ◌>>>◌}
+use Rattle.abi_bindgen.specs.Flows.{Flows}
 use Rattle.abi_bindgen.proofs.Writing.{part_later}
+use Rattle.abi_bindgen.proofs.FlowSteps.{flows_as, flows_then, flows_both, flows_behind}
 use Rattle.abi_driver.proofs.calls.import.call_import.Goals as goal
 
 pub pass_arguments-requires-clause-writes : goal.pass_arguments-requires-clause-writes
@@ -180,19 +181,43 @@ returns g c =
     let called = subst (λ (os : List _). Emits m types (CallWasm c.args.func) os back c.point_at_result.new.bindgen c.send.new.bindgen) all c.in_ok-answer.ensures in
     let reads = subst (λ (os : List _). ReadsAnswer m (result_shape types f) os back given c.send.new.bindgen c.read_answer.new.bindgen) c.as_slice-5.ensures c.in_ok-given.ensures.reads in
     let count : c.len-count.result ≡ length (option_to_list f.result) = c.len-count.ensures ∙ given_count m types (result_shape types f) pointer back given _ _ reads ∙ count_mapped (shape_of types) f.result in
-    let end = sends (Return (length (option_to_list f.result))) ∷ [] in
+    let start = c.args.bindgen.now in
     let one = c.pass_arguments.new.bindgen in
     let two = c.point_at_result.new.bindgen in
     let three = c.send.new.bindgen in
     let four = c.read_answer.new.bindgen in
     let five = c.send-2.new.bindgen in
-    let passed = sends_as m types (pass_code types c.as_slice-2.result.now) (pass_code types (map (λ (p : Param). p.ty) f.params)) c.args.bindgen.now one (ap (pass_code types) (sym same)) c.in_ok-words.ensures.sends in
-    let last = sends_as m types (sends (Return c.len-count.result) ∷ []) end four five (ap (λ n. sends (Return n) ∷ []) (sym count)) (sends_one m types (Return c.len-count.result) given _ four five c.in_ok-send.ensures) in
-    let args = pass_code types (map (λ (p : Param). p.ty) f.params) in
-    let called_so = sends_then m types (CallWasm c.args.func) (words ++ pointer) back (read_code types f.result) two three four called c.in_ok-given.ensures.sends in
-    let asked = sends_both m types args (point_code types f.result) c.args.bindgen.now one two passed c.in_ok-pointer.ensures.sends in
-    let read = sends_both m types (args ++ point_code types f.result) (sends (CallWasm c.args.func) ∷ read_code types f.result) c.args.bindgen.now two four asked called_so in
+    let tys = map (λ (p : Param). p.ty) f.params in
+    let args = pass_code types tys in
+    let points = point_code types f.result in
+    let read = read_code types f.result in
+    let call : Flow = both (emit (CallWasm c.args.func)) (behind (passed_count types tys)) in
+    let passed = flows_as m types (pass_code types c.as_slice-2.result.now) args [] words start one (ap (pass_code types) (sym same)) c.in_ok-words.ensures.flows in
+    let asked = flows_both m types args points [] words pointer start one two passed c.in_ok-pointer.ensures.flows in
+    let counted = passed_words m types tys words start one passes in
+    let called_so = flows_both m types (emit (CallWasm c.args.func)) (behind (passed_count types tys)) (words ++ pointer) back pointer two three three called (flows_behind m types (passed_count types tys) words pointer three counted) in
+    let called_all = flows_then m types (both args points) call [] (words ++ pointer) (back ++ pointer) start two three asked called_so in
+    let read_flow = subst (λ (os : List _). Flows m types read (back ++ os) given three four) c.as_slice-5.ensures c.in_ok-given.ensures.flows in
+    let read_all = flows_then m types (both args points >>> call) read [] (back ++ pointer) given start three four called_all read_flow in
+    let none = nil_from_length c.in_ok-send.field-0 c.in_ok-send.ensures.results in
+    let ended = subst (λ n. Emits m types (Return n) given [] four five) count (subst (λ (os : List _). Emits m types (Return c.len-count.result) given os four five) none c.in_ok-send.ensures) in
     record {
       calls = calls_import m g.met.B.Bindgen.sound types c.args.func _ _ _ _ _ _ words pointer back given _ c.len-count.result passes c.in_ok-pointer.ensures.points called reads c.in_ok-send.ensures;
-      sends = sends_both m types (args ++ point_code types f.result ++ (sends (CallWasm c.args.func) ∷ read_code types f.result)) end c.args.bindgen.now four five read last;
+      flows = flows_then m types (both args points >>> call >>> read) (emit (Return (length (option_to_list f.result)))) [] given [] start four five read_all ended;
     }
+
+pub read_answer-requires-clause-unpointed : goal.read_answer-requires-clause-unpointed
+read_answer-requires-clause-unpointed g c =
+    let m = g.B.Bindgen.meaning in
+    let types = c.args.resolve.now.types in
+    let f = c.args.func.now in
+    let signature = c.wasm_signature-signature in
+    λ e. c.as_slice-5.ensures ∙ no_pointer m (result_shape types f) c.in_ok-pointer.pointer _ _ signature.result.retptr c.in_ok-pointer.ensures.points (pointer_told types f signature.result signature.ensures) e
+
+pub read_answer-requires-clause-unanswered : goal.read_answer-requires-clause-unanswered
+read_answer-requires-clause-unanswered g c =
+    let types = c.args.resolve.now.types in
+    let f = c.args.func.now in
+    let signature = c.wasm_signature-signature in
+    let r = result_shape types f in
+    λ e. nil_from_length c.in_ok-answer.answer (c.in_ok-answer.ensures.results ∙ ap length ((import_words types f).1 ∙ ap (λ q. if q then [] else result_words r) (sym (pointer_told types f signature.result signature.ensures) ∙ e)))

@@ -1,23 +1,23 @@
-use Rattle.std.proofs.Common.{◌<◌, ◌≤◌, ◌∷◌, ◌++◌, length, get_or, false, refl, ap, ◌∙◌, arith}
+use Rattle.std.proofs.Common.{◌<◌, ◌≤◌, ◌∷◌, ◌++◌, length, get_or, false, refl, ap, ◌∙◌, arith, []}
 use Rattle.std.proofs.lemmas.Bool.{ltb-false}
 use Rattle.std.proofs.lemmas.List.{drop_more}
 use Rattle.wit_model.specs.declared.types.WitType.TheVariants as wit
 use Rattle.abi_bindgen.specs.declared.instruction.Instruction.TheVariants as instruction
 use Rattle.abi_bindgen.specs.Code.{lower_code}
 use Rattle.abi_bindgen.specs.Instructions.{shapes_of}
+use Rattle.abi_bindgen.specs.Flow.{emit, ◌>>>◌}
 use Rattle.wrapper_meaning.specs.Represents.{param_words}
 use Rattle.abi_bindgen.proofs.Serving.{part_served}
 use Rattle.abi_bindgen.proofs.WordCounts.{part_few}
-use Rattle.abi_bindgen.specs.Sent.{sends}
 use Rattle.abi_driver.proofs.ArgumentSteps.{rest_last, rest_next, within_count}
 use Rattle.abi_bindgen.proofs.Records.{part_below_within}
 use Rattle.abi_bindgen.proofs.Runs.{adds_both, adds_same}
-use Rattle.abi_bindgen.proofs.SendSteps.{sends_last, sends_next, sends_then}
 use Rattle.abi_bindgen.proofs.Writing.{one_written, writes_later}
+use Rattle.abi_bindgen.proofs.FlowSteps.{flows_then, flows_next, flows_last}
 use Rattle.abi_driver.proofs.calls.import.lower_arguments.Goals as goal
 
 pub loop-i-init : goal.loop-i-init
-loop-i-init g c = record { adds = adds_same g.B.Bindgen.meaning c.args.bindgen.now; sent = refl; rest = λ new later h. rw c.new-all.ensures.items h }
+loop-i-init g c = record { adds = adds_same g.B.Bindgen.meaning c.args.bindgen.now; flows = λ new gives h. rw c.new-all.ensures.items h; rest = λ new later h. rw c.new-all.ensures.items h }
 
 pub argument-requires : goal.argument-requires
 argument-requires g c =
@@ -49,11 +49,16 @@ loop-i-preserved g c =
     let types = c.args.resolve.now.types in
     let short : c.loop-i.i < length c.args.tys.now = omega (arith, c.loop-i-test.true) in
     let read = c.in_ok-value.ensures in
+    let tys = c.args.tys.now in
+    let i = c.loop-i.i in
+    let words = c.in_ok-words.words in
+    let all = c.in_ok-push_copies.ensures ∙ ap (λ os. c.loop-i.all.items ++ os) c.as_slice.ensures in
     record {
       adds = adds_both m _ _ _ c.loop-i.invariant.adds (adds_both m _ _ _ c.in_ok-value.ensures.adds c.in_ok-words.ensures.lowers.adds);
-      sent = sends_next m types (λ n ty. sends (instruction.GetArg n) ∷ lower_code types false ty) c.args.tys.now c.loop-i.i wit.Bool _ _ _ short c.loop-i.invariant.sent (sends_then m types (instruction.GetArg c.loop-i.i) _ _ _ _ _ _ read c.in_ok-words.ensures.sends);
+      flows = flows_next m types 0 (λ ty. 0) (λ n ty. emit (instruction.GetArg n) >>> lower_code types false ty) [] tys [] c.args.bindgen.now i wit.Bool [] [] c.loop-i.all.items words c.push_copies.new.all.items c.loop-i.bindgen c.lower_flat.new.bindgen short refl refl all
+          (flows_then m types (emit (instruction.GetArg i)) (lower_code types false (get_or tys i wit.Bool)) [] (c.in_ok-value.value ∷ []) words c.loop-i.bindgen c.argument.new.bindgen c.lower_flat.new.bindgen read c.in_ok-words.ensures.flows) c.loop-i.invariant.flows;
       rest = rest_next m g.met.B.Bindgen.sound types c.args.tys.now c.loop-i.i c.loop-i.all.items c.in_ok-words.words c.push_copies.new.all.items _ _ _ _ (get_or c.args.tys.now c.loop-i.i wit.Bool) c.in_ok-value.value
-          (drop_more c.args.tys.now c.loop-i.i wit.Bool short) read c.in_ok-words.ensures.lowers (c.in_ok-push_copies.ensures ∙ ap (λ os. c.loop-i.all.items ++ os) c.as_slice.ensures) c.loop-i.invariant.rest;
+          (drop_more c.args.tys.now c.loop-i.i wit.Bool short) read c.in_ok-words.ensures.lowers all c.loop-i.invariant.rest;
     }
 
 pub returns : goal.returns
@@ -64,5 +69,5 @@ returns g c =
     let ended : length tys ≤ c.loop-i.i = omega (arith, c.loop-i-test.false) in
     record {
       lowers = rw c.from_vec.ensures (rest_last m g.met.B.Bindgen.sound types tys c.loop-i.i c.loop-i.all.items _ _ ended c.loop-i.invariant.rest);
-      sends = sends_last m types (λ n ty. sends (instruction.GetArg n) ∷ lower_code types false ty) tys c.loop-i.i _ _ ended c.loop-i.invariant.sent;
+      flows = rw c.from_vec.ensures (flows_last m types 0 (λ ty. 0) (λ n ty. emit (instruction.GetArg n) >>> lower_code types false ty) [] tys [] c.args.bindgen.now c.loop-i.i c.loop-i.all.items [] _ ended c.loop-i.invariant.flows);
     }

@@ -7,11 +7,12 @@ use Rattle.wrapper_meaning.specs.Shape.Shape.{fields}
 use Rattle.abi_bindgen.specs.declared.instruction.Instruction.TheVariants.{GetArg, GuestDeallocate}
 use Rattle.abi_bindgen.specs.Code.{free_block_code}
 use Rattle.abi_bindgen.specs.Instructions.{Emits, shapes_of}
-use Rattle.abi_bindgen.specs.Sent.{sends}
+use Rattle.abi_bindgen.specs.Flow.{emit, ◌>>>◌}
 use Rattle.abi_driver.proofs.AreaAsked.{record_told}
 use Rattle.abi_driver.proofs.LowPlaces.{small_fits}
 use Rattle.abi_driver.proofs.RecordPlaces.{have_places, record_layout}
-use Rattle.abi_bindgen.proofs.SendSteps.{sends_as, sends_one, sends_then}
+use Rattle.abi_bindgen.proofs.FlowSteps.{flows_as, flows_then}
+use Rattle.std.proofs.lemmas.List.{nil_from_length}
 use Rattle.abi_driver.proofs.calls.record.free_arguments.Goals as goal
 
 pub record_of-align-requires-clause-room : goal.record_of-align-requires-clause-room
@@ -38,8 +39,9 @@ returns g c =
     let size = c.record_of-align.result.0 in
     let align = c.record_of-align.result.1 in
     let told = record_told (fields (shapes_of types tys)) (record_of types tys) size align same (c.record_of-align.ensures.size types filled) (c.record_of-align.ensures.align types filled) in
-    let code : free_block_code (fields (shapes_of types tys)) ≡ sends (GetArg 0) ∷ sends (GuestDeallocate size align) ∷ [] = ap₂ (λ x y. sends (GetArg 0) ∷ sends (GuestDeallocate x y) ∷ []) (sym told.0) (sym told.1) in
+    let code : free_block_code (fields (shapes_of types tys)) ≡ emit (GetArg 0) >>> emit (GuestDeallocate size align) = ap₂ (λ x y. emit (GetArg 0) >>> emit (GuestDeallocate x y)) (sym told.0) (sym told.1) in
     let freed = subst (λ (os : List _). Emits m types (GuestDeallocate size align) os c.in_ok-_none._none c.argument.new.bindgen c.send.new.bindgen) c.in_ok-operands.ensures c.in_ok-_none.ensures in
+    let none = subst (λ (os : List _). Emits m types (GuestDeallocate size align) (c.in_ok-address.address ∷ []) os c.argument.new.bindgen c.send.new.bindgen) (nil_from_length c.in_ok-_none._none freed.results) freed in
     record {
       frees = record {
         size = size;
@@ -52,7 +54,6 @@ returns g c =
         reads = c.in_ok-address.ensures;
         frees = freed;
       };
-      sends = sends_as m types (sends (GetArg 0) ∷ sends (GuestDeallocate size align) ∷ []) (free_block_code (fields (shapes_of types tys))) c.args.bindgen.now c.send.new.bindgen code
-          (sends_then m types (GetArg 0) [] (c.in_ok-address.address ∷ []) (sends (GuestDeallocate size align) ∷ []) c.args.bindgen.now c.argument.new.bindgen c.send.new.bindgen c.in_ok-address.ensures
-          (sends_one m types (GuestDeallocate size align) (c.in_ok-address.address ∷ []) c.in_ok-_none._none c.argument.new.bindgen c.send.new.bindgen freed));
+      flows = flows_as m types (emit (GetArg 0) >>> emit (GuestDeallocate size align)) (free_block_code (fields (shapes_of types tys))) [] [] c.args.bindgen.now c.send.new.bindgen code
+          (flows_then m types (emit (GetArg 0)) (emit (GuestDeallocate size align)) [] (c.in_ok-address.address ∷ []) [] c.args.bindgen.now c.argument.new.bindgen c.send.new.bindgen c.in_ok-address.ensures none);
     }

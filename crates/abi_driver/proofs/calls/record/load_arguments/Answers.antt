@@ -1,12 +1,12 @@
-use Rattle.std.proofs.Common.{◌≡◌, [], ◌∷◌, ◌++◌, length, sym, ap, ◌∙◌, arith}
+use Rattle.std.proofs.Common.{◌≡◌, [], ◌∷◌, length, sym, ◌∙◌, arith, refl, subst}
 use Rattle.wrapper_meaning.specs.Shape.Shape.{fields}
 use Rattle.abi_bindgen.specs.declared.instruction.Instruction.TheVariants.{Flush, GetArg}
 use Rattle.abi_bindgen.specs.Code.{free_block_code, load_arguments}
-use Rattle.abi_bindgen.specs.Instructions.{shapes_of}
-use Rattle.abi_bindgen.specs.Sent.{sends}
+use Rattle.abi_bindgen.specs.Instructions.{shapes_of, Emits}
+use Rattle.abi_bindgen.specs.Flow.{Flow, emit, same, both, alone, ◌>>>◌}
 use Rattle.abi_bindgen.proofs.Records.{count-shapes}
-use Rattle.abi_bindgen.proofs.SendSteps.{sends_as, sends_both, sends_then}
 use Rattle.abi_bindgen.proofs.Writing.{each_later}
+use Rattle.abi_bindgen.proofs.FlowSteps.{flows_then, flows_first_of, flows_alone}
 use Rattle.abi_driver.proofs.calls.record.load_arguments.Goals as goal
 
 pub load_at-requires-clause-writes : goal.load_at-requires-clause-writes
@@ -21,11 +21,20 @@ returns g c =
     let types = c.args.resolve.now.types in
     let tys = c.args.tys.now in
     let many : c.len-count.result ≡ length tys = c.len-count.ensures ∙ c.in_ok-parts.ensures.count in
-    let freed = free_block_code (fields (shapes_of types tys)) in
-    let later =
-    sends_as m types (sends (Flush c.len-count.result) ∷ freed) (sends (Flush (length tys)) ∷ freed) c.load_at.new.bindgen c.free_arguments.new.bindgen (ap (λ n. sends (Flush n) ∷ freed) (sym many))
-    (sends_then m types (Flush c.len-count.result) c.in_ok-parts.parts c.in_ok-values.values freed c.load_at.new.bindgen c.send.new.bindgen c.free_arguments.new.bindgen c.in_ok-values.ensures c.in_ok-free_arguments.ensures.sends)
-    in
+    let freed : Flow = free_block_code (fields (shapes_of types tys)) in
+    let address = c.in_ok-address.address in
+    let parts = c.in_ok-parts.parts in
+    let values = c.in_ok-values.values in
+    let one = c.argument.new.bindgen in
+    let two = c.load_at.new.bindgen in
+    let three = c.send.new.bindgen in
+    let four = c.free_arguments.new.bindgen in
+    let flush = subst (λ n. Emits m types (Flush n) parts values two three) many c.in_ok-values.ensures in
+    let loads = load_arguments types tys in
+    let flushes : Flow = emit (Flush (length tys)) in
+    let got = flows_then m types (emit (GetArg 0)) loads [] (address ∷ []) parts c.args.bindgen.now one two c.in_ok-address.ensures c.in_ok-parts.ensures.flows in
+    let named = flows_then m types (emit (GetArg 0) >>> loads) flushes [] parts values c.args.bindgen.now two three got flush in
+    let last = flows_first_of m types same (alone freed) values values three three four (refl, refl) (flows_alone m types freed values [] three four c.in_ok-free_arguments.ensures.flows) in
     record {
       takes = record {
         address = c.in_ok-address.address;
@@ -33,14 +42,13 @@ returns g c =
         counted = c.in_ok-parts.ensures.count ∙ sym (count-shapes types tys);
         many = c.in_ok-values.ensures.results ∙ many ∙ sym (count-shapes types tys);
         number = c.len-count.result;
-        one = c.argument.new.bindgen;
-        two = c.load_at.new.bindgen;
-        three = c.send.new.bindgen;
+        one = one;
+        two = two;
+        three = three;
         reads = c.in_ok-address.ensures;
         loads = c.in_ok-parts.ensures.loads;
         renames = c.in_ok-values.ensures;
         frees = c.in_ok-free_arguments.ensures.frees;
       };
-      sends = sends_then m types (GetArg 0) [] (c.in_ok-address.address ∷ []) (load_arguments types tys ++ sends (Flush (length tys)) ∷ freed) c.args.bindgen.now c.argument.new.bindgen c.free_arguments.new.bindgen c.in_ok-address.ensures
-          (sends_both m types (load_arguments types tys) (sends (Flush (length tys)) ∷ freed) c.argument.new.bindgen c.load_at.new.bindgen c.free_arguments.new.bindgen c.in_ok-parts.ensures.sends later);
+      flows = flows_then m types (emit (GetArg 0) >>> loads >>> flushes) (both same (alone freed)) [] values values c.args.bindgen.now three four named last;
     }

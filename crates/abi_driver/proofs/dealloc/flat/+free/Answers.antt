@@ -1,7 +1,8 @@
-use Rattle.std.proofs.Common.{rules, ◌≡◌, ◌<◌, ◌≤◌, ◌+◌, true, List, Option, [], length, map, get_or, refl, sym, ap, ◌∙◌, subst, arith}
+use Rattle.std.proofs.Common.{rules, ◌≡◌, ◌<◌, ◌≤◌, ◌+◌, true, false, List, Option, [], length, map, get_or, refl, sym, ap, ◌∙◌, subst, arith, ℕ, ◌++◌, take, drop}
 use Rattle.std.specs.List.{list_all}
 use Rattle.std.proofs.lemmas.Bool.{lt-ltb}
-use Rattle.std.proofs.lemmas.List.{drop_all, drop_more}
+use Rattle.std.proofs.lemmas.List.{drop-drop, drop_all, drop_more, length-drop, length-take-le}
+use Rattle.std.proofs.Math.Seq.{take-add}
 use Rattle.wit_model.specs.TypeOrder.{type_below}
 use mathlib.Core.Logic.{◌⊎◌, inl, inr}
 use Rattle.wit_model.specs.declared.types.Case.{Case}
@@ -16,11 +17,13 @@ use Rattle.wit_layout.specs.Extent.{flag_words}
 use Rattle.wrapper_meaning.specs.Shape.{payloads_in, shapes}
 use Rattle.wrapper_meaning.specs.Shape.Shape.{flags}
 use Rattle.abi_bindgen.specs.Cases.{payloads_of}
-use Rattle.abi_bindgen.specs.Code.{each, free_words_code}
+use Rattle.abi_bindgen.specs.Code.{free_words_code, free_types_code}
 use Rattle.abi_bindgen.specs.HasList.{IsKindOf}
 use Rattle.abi_bindgen.specs.Instructions.{field_shapes, has_cases, shapes_of}
 use Rattle.abi_bindgen.specs.Served.{AreFreedByWords, IsFreedByWords, Serves, ServesAll}
 use Rattle.abi_bindgen.specs.WordCount.{word_count, word_counts}
+use Rattle.abi_bindgen.specs.Flow.{Flow, leave_none}
+use Rattle.abi_bindgen.specs.Flows.{Flows}
 use Rattle.abi_bindgen.proofs.FlatCode.{free_words_alias_code, free_words_cases_code, free_words_enum_code, free_words_flags_code, free_words_record_code, free_words_scalar_code, free_words_tuple_code}
 use Rattle.abi_driver.proofs.FlatFrees.{Freed, all_freed_as, cases_passed, enum_passed, fields_freed, flags_passed, freed_as, part_freed, rest_last, rest_next, scalar_passed, tuple_freed}
 use Rattle.abi_driver.proofs.LiftSteps.{scalar_words}
@@ -29,7 +32,7 @@ use Rattle.abi_bindgen.proofs.Payloads.{count_told, variant_shape}
 use Rattle.abi_bindgen.proofs.Records.{alias_below, alias_rank, alias_shape, entry_at, enum_shape, flags_shape, kind_at, part_below_within, part_ranked, record_below, record_shape, tuple_below, tuple_shape}
 use Rattle.abi_bindgen.proofs.Serving.{alias_served, other_refused, part_served, record_served, tuple_served}
 use Rattle.abi_bindgen.proofs.WordCounts.{alias_words, enum_words, flags_words, no_more, record_words, tuple_words, variant_words}
-use Rattle.abi_bindgen.proofs.SendSteps.{sends_as, sends_last, sends_next}
+use Rattle.abi_bindgen.proofs.FlowSteps.{FlowsOn, flows_as, flows_next, flows_last}
 use Rattle.abi_driver.proofs.dealloc.flat.+free.Goals as goal
 
 pub free_id-free_type-requires : goal.free_id-free_type-requires
@@ -92,7 +95,8 @@ free_id-returns-in_ok-next-in-Alias g t c =
     record {
       next = c.in_ok-next-in-Alias.ensures.next ∙ ap (λ n. c.args.at + n) (sym (alias_words types c.requires.down c.args.id d at c.in-Alias.ty is));
       frees = freed_as m g.met.B.Bindgen.sound types _ _ _ _ c.args.words.now c.args.at _ (alias_shape types c.requires.down c.args.id.0 d at c.in-Alias.ty is) c.in_ok-next-in-Alias.ensures.frees;
-      sends = sends_as m types _ _ _ _ (free_words_alias_code types c.requires.down c.args.id d at c.in-Alias.ty is) c.in_ok-next-in-Alias.ensures.sends;
+      flows = flows_as m types (free_words_code types c.in-Alias.ty) (free_words_code types (wit.Id c.args.id)) _ [] _ _ (free_words_alias_code types c.requires.down c.args.id d at c.in-Alias.ty is)
+          (subst (λ n. Flows m types (free_words_code types c.in-Alias.ty) (take n (drop c.args.at c.args.words.now)) [] c.args.bindgen.now c.free_type.new.bindgen) (sym (alias_words types c.requires.down c.args.id d at c.in-Alias.ty is)) c.in_ok-next-in-Alias.ensures.flows);
     }
 
 pub free_id-returns-in_ok-next-in-Record : goal.free_id-returns-in_ok-next-in-Record
@@ -106,10 +110,13 @@ free_id-returns-in_ok-next-in-Record g t c =
     let same : c.as_slice-tys.result.now ≡ map (λ (f : Field). f.ty) members = c.as_slice-tys.ensures ∙ c.in_ok-tys-in-Record.ensures ∙ ap (map (λ (f : Field). f.ty)) c.as_slice.ensures in
     let parts = all_freed_as m g.met.B.Bindgen.sound types _ _ _ _ c.args.words.now c.args.at _ same c.in_ok-next-in-Record.ensures.frees in
     let whole = fields_freed m g.met.B.Bindgen.sound types (field_shapes types members) _ _ c.args.words.now c.args.at _ parts in
+    let many = record_words types c.requires.down c.args.id d at members is ∙ ap (word_counts types) (sym same) in
+    let code : List WitType → Flow = λ tys. free_types_code types false tys in
     record {
-      next = c.in_ok-next-in-Record.ensures.next ∙ ap (λ n. c.args.at + n) (sym (record_words types c.requires.down c.args.id d at members is ∙ ap (word_counts types) (sym same)));
+      next = c.in_ok-next-in-Record.ensures.next ∙ ap (λ n. c.args.at + n) (sym many);
       frees = freed_as m g.met.B.Bindgen.sound types _ _ _ _ c.args.words.now c.args.at _ (record_shape types c.requires.down c.args.id.0 d at members is) whole;
-      sends = sends_as m types _ _ _ _ (free_words_record_code types c.requires.down c.args.id d at members is ∙ ap (each (λ n ty. free_words_code types ty) 0) (sym same)) c.in_ok-next-in-Record.ensures.sends;
+      flows = flows_as m types (code c.as_slice-tys.result.now) (free_words_code types (wit.Id c.args.id)) _ [] _ _ (free_words_record_code types c.requires.down c.args.id d at members is ∙ ap code (sym same))
+          (subst (λ n. Flows m types (code c.as_slice-tys.result.now) (take n (drop c.args.at c.args.words.now)) [] c.args.bindgen.now c.free_parts.new.bindgen) (sym many) c.in_ok-next-in-Record.ensures.flows);
     }
 
 pub free_id-returns-in_ok-next-in-Tuple : goal.free_id-returns-in_ok-next-in-Tuple
@@ -122,14 +129,17 @@ free_id-returns-in_ok-next-in-Tuple g t c =
     let tys = c.in-Tuple.members in
     let parts = all_freed_as m g.met.B.Bindgen.sound types _ _ _ _ c.args.words.now c.args.at _ c.as_slice-tys-in-Tuple.ensures c.in_ok-next-in-Tuple.ensures.frees in
     let whole = tuple_freed m g.met.B.Bindgen.sound types (shapes_of types tys) _ _ c.args.words.now c.args.at _ parts in
+    let many = tuple_words types c.requires.down c.args.id d at tys is ∙ ap (word_counts types) (sym c.as_slice-tys-in-Tuple.ensures) in
+    let code : List WitType → Flow = λ tys. free_types_code types false tys in
     record {
-      next = c.in_ok-next-in-Tuple.ensures.next ∙ ap (λ n. c.args.at + n) (sym (tuple_words types c.requires.down c.args.id d at tys is ∙ ap (word_counts types) (sym c.as_slice-tys-in-Tuple.ensures)));
+      next = c.in_ok-next-in-Tuple.ensures.next ∙ ap (λ n. c.args.at + n) (sym many);
       frees = freed_as m g.met.B.Bindgen.sound types _ _ _ _ c.args.words.now c.args.at _ (tuple_shape types c.requires.down c.args.id.0 d at tys is) whole;
-      sends = sends_as m types _ _ _ _ (free_words_tuple_code types c.requires.down c.args.id d at tys is ∙ ap (each (λ n ty. free_words_code types ty) 0) (sym c.as_slice-tys-in-Tuple.ensures)) c.in_ok-next-in-Tuple.ensures.sends;
+      flows = flows_as m types (code c.as_slice-tys-in-Tuple.result.now) (free_words_code types (wit.Id c.args.id)) _ [] _ _ (free_words_tuple_code types c.requires.down c.args.id d at tys is ∙ ap code (sym c.as_slice-tys-in-Tuple.ensures))
+          (subst (λ n. Flows m types (code c.as_slice-tys-in-Tuple.result.now) (take n (drop c.args.at c.args.words.now)) [] c.args.bindgen.now c.free_parts-in-Tuple.new.bindgen) (sym many) c.in_ok-next-in-Tuple.ensures.flows);
     }
 
 pub free_parts-loop-i-init : goal.free_parts-loop-i-init
-free_parts-loop-i-init g t c = record { left = refl; low = omega arith; sent = refl; rest = ([], refl, λ new qs h. h) }
+free_parts-loop-i-init g t c = record { left = refl; low = omega arith; flows = λ new gives h. h; rest = ([], refl, λ new qs h. h) }
 
 pub free_id-returns-in-Enum : goal.free_id-returns-in-Enum
 free_id-returns-in-Enum g t c =
@@ -143,7 +153,7 @@ free_id-returns-in-Enum g t c =
     record {
       next = ap (λ n. c.args.at + n) (sym one);
       frees = freed_as m g.met.B.Bindgen.sound types _ _ _ _ c.args.words.now c.args.at _ (enum_shape types c.requires.down c.args.id.0 d at members is) (enum_passed m g.met.B.Bindgen.sound types members _ c.args.words.now c.args.at (omega (arith, one, c.requires.enough)));
-      sends = sends_as m types _ _ _ _ (free_words_enum_code types c.requires.down c.args.id d at members is) refl;
+      flows = flows_as m types leave_none (free_words_code types (wit.Id c.args.id)) _ [] _ _ (free_words_enum_code types c.requires.down c.args.id d at members is) (refl, refl);
     }
 
 pub free_id-returns-in-Flags : goal.free_id-returns-in-Flags
@@ -159,7 +169,7 @@ free_id-returns-in-Flags g t c =
     record {
       next = ap (λ n. c.args.at + n) (read ∙ sym many);
       frees = freed_as m g.met.B.Bindgen.sound types _ _ _ _ c.args.words.now c.args.at _ (flags_shape types c.requires.down c.args.id.0 d at members is) (subst (λ n. Freed m g.met.B.Bindgen.sound types (flags (length members)) c.args.words.now c.args.at (c.args.at + n) c.args.bindgen.now c.args.bindgen.now) (sym read) (flags_passed m g.met.B.Bindgen.sound types (length members) c.args.bindgen.now c.args.words.now c.args.at (omega (arith, many, c.requires.enough))));
-      sends = sends_as m types _ _ _ _ (free_words_flags_code types c.requires.down c.args.id d at members is) refl;
+      flows = flows_as m types leave_none (free_words_code types (wit.Id c.args.id)) _ [] _ _ (free_words_flags_code types c.requires.down c.args.id d at members is) (refl, refl);
     }
 
 pub free_parts-free_type-requires : goal.free_parts-free_type-requires
@@ -183,10 +193,22 @@ free_parts-loop-i-preserved g t c =
     let short : i < length tys = omega (arith, c.loop-i-test.true) in
     let types = c.args.resolve.now.types in
     let next = words_next types tys i (get_or tys i wit.Bool) (drop_more tys i wit.Bool short) in
+    let words = c.args.words.now in
+    let from = c.loop-i.next in
+    let one = word_count types (get_or tys i wit.Bool) in
+    let others = words_left types tys (i + 1) in
+    let mine = take one (drop from words) in
+    let rest = take others (drop c.in_ok-next.next words) in
+    let behind : drop one (drop from words) ≡ drop c.in_ok-next.next words = drop-drop one from words ∙ ap (λ k. drop k words) (sym c.in_ok-next.ensures.next) in
+    let unread : take (words_left types tys i) (drop from words) ≡ mine ++ rest = ap (λ k. take k (drop from words)) next ∙ take-add one others (drop from words) ∙ ap (λ os. mine ++ take others os) behind in
+    let room : one ≤ length (drop from words) = omega (arith, next, c.loop-i.invariant.left, c.requires.enough, length-drop from words) in
+    let all = take (word_counts types tys) (drop c.args.at words) in
+    let code : ℕ → WitType → Flow = λ n ty. free_words_code types ty in
+    let on = subst (λ os. FlowsOn m types 0 (word_count types) code [] tys all c.args.bindgen.now i [] os c.loop-i.bindgen) unread c.loop-i.invariant.flows in
     record {
       left = omega (arith, next, c.loop-i.invariant.left, c.in_ok-next.ensures.next);
       low = omega (arith, c.loop-i.invariant.low, c.in_ok-next.ensures.next);
-      sent = sends_next m types (λ n ty. free_words_code types ty) tys i wit.Bool _ _ _ short c.loop-i.invariant.sent c.in_ok-next.ensures.sends;
+      flows = flows_next m types 0 (word_count types) code [] tys all c.args.bindgen.now i wit.Bool mine rest [] [] [] c.loop-i.bindgen c.free_type.new.bindgen short refl (length-take-le one (drop from words) room) refl c.in_ok-next.ensures.flows on;
       rest = rest_next m g.met.B.Bindgen.sound types tys i c.args.at c.args.words.now c.loop-i.next _ _ _ _ (get_or tys i wit.Bool) (drop_more tys i wit.Bool short) c.in_ok-next.ensures.frees c.loop-i.invariant.rest;
     }
 
@@ -199,7 +221,7 @@ free_parts-returns g t c =
     record {
       next = omega (arith, c.loop-i.invariant.left, none_left);
       frees = rest_last m g.met.B.Bindgen.sound types c.args.tys.now c.loop-i.i c.args.at c.args.words.now c.loop-i.next _ _ ended c.loop-i.invariant.rest;
-      sends = sends_last m types (λ n ty. free_words_code types ty) c.args.tys.now c.loop-i.i _ _ ended c.loop-i.invariant.sent;
+      flows = flows_last m types 0 (word_count types) (λ n ty. free_words_code types ty) [] c.args.tys.now (take (word_counts types c.args.tys.now) (drop c.args.at c.args.words.now)) c.args.bindgen.now c.loop-i.i [] (take (words_left types c.args.tys.now c.loop-i.i) (drop c.loop-i.next c.args.words.now)) _ ended c.loop-i.invariant.flows;
     }
 
 pub free_type-returns-in-Some : goal.free_type-returns-in-Some
@@ -211,7 +233,7 @@ free_type-returns-in-Some g t c =
     record {
       next = ap (λ n. c.args.at + n) (sym one);
       frees = scalar_passed m g.met.B.Bindgen.sound types c.args.ty c.in-Some._lift c.args.bindgen.now c.args.words.now c.args.at is (omega (arith, one, c.requires.enough));
-      sends = sends_as m types [] _ _ _ (free_words_scalar_code types c.args.ty c.in-Some._lift is) refl;
+      flows = flows_as m types leave_none (free_words_code types c.args.ty) _ [] _ _ (free_words_scalar_code types c.args.ty c.in-Some._lift is) (refl, refl);
     }
 
 -- one of the kinds with cases
@@ -241,7 +263,7 @@ free_id-returns-in-Variant g t c =
     record {
       next = ap (λ n. c.args.at + n) (count ∙ sym all);
       frees = freed_as m sound types _ _ _ _ c.args.words.now c.args.at _ shape whole;
-      sends = sends_as m types [] _ _ _ (free_words_cases_code types c.requires.down c.args.id d at k is has) refl;
+      flows = flows_as m types leave_none (free_words_code types (wit.Id c.args.id)) _ [] _ _ (free_words_cases_code types c.requires.down c.args.id d at k is has) (refl, refl);
     }
 
 pub free_id-flat_types-flat-requires-clause-below : goal.free_id-flat_types-flat-requires-clause-below

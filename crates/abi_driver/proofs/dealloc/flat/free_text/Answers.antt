@@ -1,10 +1,14 @@
-use Rattle.std.proofs.Common.{◌≡◌, ◌<◌, ◌+◌, List, [], ◌∷◌, ◌++◌, length, drop, refl, ap, ◌∙◌, subst, arith}
+use Rattle.std.proofs.Common.{◌≡◌, ◌<◌, ◌+◌, List, [], ◌∷◌, ◌++◌, length, drop, refl, ap, ◌∙◌, subst, arith, sym, take}
+use Rattle.wit_model.specs.declared.types.WitType.TheVariants as wit
 use Rattle.abi_bindgen.specs.Instructions.{Emits}
 use Rattle.abi_bindgen.specs.declared.instruction.Instruction.TheVariants.{GuestDeallocateString}
+use Rattle.abi_bindgen.specs.Flow.{emit}
+use Rattle.abi_bindgen.specs.Code.{free_words_code}
 use Rattle.abi_bindgen.proofs.FlatCode.{free_words_text_code}
 use Rattle.abi_driver.proofs.FlatFrees.{text_freed}
 use Rattle.abi_bindgen.proofs.Records.{drop-same}
-use Rattle.abi_bindgen.proofs.SendSteps.{sends_as, sends_one}
+use Rattle.abi_bindgen.proofs.FlowSteps.{flows_as}
+use Rattle.std.proofs.lemmas.List.{nil_from_length}
 use Rattle.abi_driver.proofs.dealloc.flat.free_text.Goals as goal
 
 pub returns : goal.returns
@@ -18,12 +22,16 @@ returns g c =
     let first = drop-same c.args.words.now c.args.words.now c.args.at c.in_ok-address.address c.index-words-at.result refl short c.index-words-at.is c.in_ok-address.ensures in
     let second = drop-same c.args.words.now c.args.words.now (c.args.at + 1) c.in_ok-length.length c.index-words-at-2.result refl shorter c.index-words-at-2.is c.in_ok-length.ensures in
     let two : c.args.at + 1 + 1 ≡ c.args.at + 2 = omega arith in
+    let front = first ∙ ap (λ os. c.in_ok-address.address ∷ os) (second ∙ ap (λ k. c.in_ok-length.length ∷ drop k c.args.words.now) two) in
+    let none = nil_from_length c.in_ok-_none._none e.results in
+    let freed = subst (λ (os : List g.row.B-Operand.Denot). Emits m types GuestDeallocateString os [] c.args.bindgen.now c.send.new.bindgen) (ap (take 2) (sym front))
+    (subst (λ (os : List g.row.B-Operand.Denot). Emits m types GuestDeallocateString (c.in_ok-address.address ∷ c.in_ok-length.length ∷ []) os c.args.bindgen.now c.send.new.bindgen) none e) in
     record {
       next = refl;
       frees = (
         c.in_ok-address.address ∷ c.in_ok-length.length ∷ [],
-        first ∙ ap (λ os. c.in_ok-address.address ∷ os) (second ∙ ap (λ k. c.in_ok-length.length ∷ drop k c.args.words.now) two),
+        front,
         text_freed m g.met.B.Bindgen.sound types _ _ c.in_ok-address.address c.in_ok-length.length c.in_ok-_none._none e,
       );
-      sends = sends_as m types _ _ _ _ (free_words_text_code types) (sends_one m types GuestDeallocateString _ _ _ _ e);
+      flows = flows_as m types (emit GuestDeallocateString) (free_words_code types wit.String) _ [] _ _ (free_words_text_code types) freed;
     }

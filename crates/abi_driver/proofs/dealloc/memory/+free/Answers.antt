@@ -1,4 +1,4 @@
-use Rattle.std.proofs.Common.{◌≡◌, ℕ, ◌<◌, ◌≤◌, ◌+◌, ◌^◌, true, List, [], ◌∷◌, ◌++◌, length, map, replicate, get_or, option_map, OnOk, Option, None, refl, sym, ap, ◌∙◌, subst, arith}
+use Rattle.std.proofs.Common.{◌≡◌, ℕ, ◌<◌, ◌≤◌, ◌+◌, ◌^◌, true, List, [], ◌∷◌, length, map, replicate, get_or, option_map, OnOk, Option, None, refl, sym, ap, ◌∙◌, subst, arith}
 use Rattle.std.specs.List.{list_all, slice_index}
 use Rattle.std.proofs.lemmas.Bool.{ltb-true}
 use Rattle.std.proofs.lemmas.List.{drop_more}
@@ -19,16 +19,16 @@ use Rattle.wrapper_meaning.specs.Kinds.{has_list}
 use Rattle.wrapper_meaning.specs.Shape.{Shape, payload_in, payloads_in, shape_of, shapes}
 use Rattle.wrapper_meaning.specs.Shape.Shape.{cases}
 use Rattle.abi_bindgen.specs.Cases.{payloads_of}
-use Rattle.abi_bindgen.specs.Code.{at_payload, beyond, each, free_code, place_in}
+use Rattle.abi_bindgen.specs.Code.{at_payload, beyond, free_code, place_in}
 use Rattle.abi_driver.specs.FreedCases.{FreesPayload}
 use Rattle.abi_bindgen.specs.Frees.{FreesInMemory}
 use Rattle.abi_bindgen.specs.HasList.{IsKindOf}
 use Rattle.abi_bindgen.specs.Instructions.{HasBlocks, field_shapes, shapes_of, has_cases}
 use Rattle.abi_bindgen.specs.Parts.{count}
 use Rattle.abi_bindgen.specs.Places.{HasParts, IsOfParts}
-use Rattle.abi_bindgen.specs.Sent.{Sent, closes, opens}
-use Rattle.abi_bindgen.specs.Sends.{Sends}
 use Rattle.abi_bindgen.specs.Served.{Serves, ServesAll}
+use Rattle.abi_bindgen.specs.Flow.{Flow, in_block, leave_none, each}
+use Rattle.abi_bindgen.specs.Flows.{Flows}
 use Rattle.abi_driver.specs.Low.{EndsLow}
 use Rattle.abi_driver.proofs.CaseFrees.{bare_frees, payload_frees, rest_last as last_case, rest_next as next_case}
 use Rattle.abi_bindgen.proofs.Payloads.{count_payloads, variant_below, variant_shape}
@@ -44,7 +44,7 @@ use Rattle.abi_driver.proofs.PartOffsets.{behind_next, cases_no_alias, no_alias,
 use Rattle.abi_driver.proofs.RecordPlaces.{place_told}
 use Rattle.abi_bindgen.proofs.Records.{alias_below, alias_rank, alias_shape, entry_at, enum_shape, flags_shape, kind_at, part_below_table, part_ranked, payload_low, payload_type_low, record_below, record_shape, tuple_below, tuple_shape, type_below_table, type_ranked}
 use Rattle.abi_bindgen.proofs.Runs.{adds_both, adds_same}
-use Rattle.abi_bindgen.proofs.SendSteps.{sends_as, sends_block, sends_last, sends_next}
+use Rattle.abi_bindgen.proofs.FlowSteps.{flows_as, flows_block, flows_next, flows_last}
 use Rattle.abi_driver.proofs.dealloc.memory.+free.Goals as goal
 
 pub free_type-free_id-requires : goal.free_type-free_id-requires
@@ -70,7 +70,7 @@ free_type-returns-in-String g t c =
     let new = c.free_text.new.bindgen in
     record {
       frees = subst (λ (ty : WitType). OnOk c.free_text.result (FreesInMemory m (shape_of types ty) c.args.address.now c.args.offset c.args.bindgen.now new)) (sym c.in-String.is) c.free_text.ensures.frees;
-      sends = subst (λ (ty : WitType). OnOk c.free_text.result (Sends m types (free_code types ty c.args.offset) c.args.bindgen.now new)) (sym c.in-String.is) c.free_text.ensures.sends;
+      flows = subst (λ (ty : WitType). OnOk c.free_text.result (Flows m types (free_code types ty c.args.offset) (c.args.address.now ∷ []) [] c.args.bindgen.now new)) (sym c.in-String.is) c.free_text.ensures.flows;
     }
 
 pub free_type-returns-in-Id : goal.free_type-returns-in-Id
@@ -80,7 +80,7 @@ free_type-returns-in-Id g t c =
     let new = c.free_id.new.bindgen in
     record {
       frees = subst (λ (ty : WitType). OnOk c.free_id.result (FreesInMemory m (shape_of types ty) c.args.address.now c.args.offset c.args.bindgen.now new)) (sym c.in-Id.is) c.free_id.ensures.frees;
-      sends = subst (λ (ty : WitType). OnOk c.free_id.result (Sends m types (free_code types ty c.args.offset) c.args.bindgen.now new)) (sym c.in-Id.is) c.free_id.ensures.sends;
+      flows = subst (λ (ty : WitType). OnOk c.free_id.result (Flows m types (free_code types ty c.args.offset) (c.args.address.now ∷ []) [] c.args.bindgen.now new)) (sym c.in-Id.is) c.free_id.ensures.flows;
     }
 
 pub free_id-free_type-requires : goal.free_id-free_type-requires
@@ -140,7 +140,7 @@ free_id-returns-in_ok-free_type-in-Alias g t c =
     let is = kind_at c.as_slice-types.result.now c.args.id.0 d (kind.Alias c.in-Alias.ty) c.index-types-at.is c.in-Alias.is in
     record {
       frees = frees_as m g.met.B.Bindgen.sound types _ _ _ _ c.args.address.now c.args.offset (alias_shape types c.requires.down c.args.id.0 d at c.in-Alias.ty is) c.in_ok-free_type-in-Alias.ensures.frees;
-      sends = sends_as m types _ _ _ _ (free_alias_code types c.requires.down c.args.id d at c.args.offset c.in-Alias.ty is) c.in_ok-free_type-in-Alias.ensures.sends;
+      flows = flows_as m types (free_code types c.in-Alias.ty c.args.offset) (free_code types (wit.Id c.args.id) c.args.offset) (c.args.address.now ∷ []) [] _ _ (free_alias_code types c.requires.down c.args.id d at c.args.offset c.in-Alias.ty is) c.in_ok-free_type-in-Alias.ensures.flows;
     }
 
 pub free_id-returns-in_ok-free_parts-in-Record : goal.free_id-returns-in_ok-free_parts-in-Record
@@ -154,10 +154,10 @@ free_id-returns-in_ok-free_parts-in-Record g t c =
     let same : c.as_slice-tys.result.now ≡ map (λ (f : Field). f.ty) members = c.as_slice-tys.ensures ∙ c.in_ok-tys-in-Record.ensures ∙ ap (map (λ (f : Field). f.ty)) c.as_slice.ensures in
     let parts = frees_parts_as m g.met.B.Bindgen.sound types _ _ _ _ c.args.address.now c.args.offset 0 same c.in_ok-free_parts-in-Record.ensures.frees in
     let all = fields_free m g.met.B.Bindgen.sound types (field_shapes types members) _ _ c.args.address.now c.args.offset parts in
-    let code : ℕ → WitType → List Sent = λ n ty. free_code types ty (beyond c.args.offset (place_in (tree_at types c.args.id.0) n)) in
+    let code : ℕ → WitType → Flow = λ n ty. free_code types ty (beyond c.args.offset (place_in (tree_at types c.args.id.0) n)) in
     record {
       frees = frees_as m g.met.B.Bindgen.sound types _ _ _ _ c.args.address.now c.args.offset (record_shape types c.requires.down c.args.id.0 d at members is) all;
-      sends = sends_as m types _ _ _ _ (free_record_code types c.requires.down c.args.id d at c.args.offset members is ∙ ap (each code 0) (sym same)) c.in_ok-free_parts-in-Record.ensures.sends;
+      flows = flows_as m types (each 1 (λ ty. 0) code 0 c.as_slice-tys.result.now) (free_code types (wit.Id c.args.id) c.args.offset) (c.args.address.now ∷ []) [] _ _ (free_record_code types c.requires.down c.args.id d at c.args.offset members is ∙ ap (each 1 (λ ty. 0) code 0) (sym same)) c.in_ok-free_parts-in-Record.ensures.flows;
     }
 
 pub free_id-returns-in_ok-free_parts-in-Tuple : goal.free_id-returns-in_ok-free_parts-in-Tuple
@@ -170,10 +170,10 @@ free_id-returns-in_ok-free_parts-in-Tuple g t c =
     let tys = c.in-Tuple.members in
     let parts = frees_parts_as m g.met.B.Bindgen.sound types _ _ _ _ c.args.address.now c.args.offset 0 c.as_slice-tys-in-Tuple.ensures c.in_ok-free_parts-in-Tuple.ensures.frees in
     let all = tuple_free m g.met.B.Bindgen.sound types (shapes_of types tys) _ _ c.args.address.now c.args.offset parts in
-    let code : ℕ → WitType → List Sent = λ n ty. free_code types ty (beyond c.args.offset (place_in (tree_at types c.args.id.0) n)) in
+    let code : ℕ → WitType → Flow = λ n ty. free_code types ty (beyond c.args.offset (place_in (tree_at types c.args.id.0) n)) in
     record {
       frees = frees_as m g.met.B.Bindgen.sound types _ _ _ _ c.args.address.now c.args.offset (tuple_shape types c.requires.down c.args.id.0 d at tys is) all;
-      sends = sends_as m types _ _ _ _ (free_tuple_code types c.requires.down c.args.id d at c.args.offset tys is ∙ ap (each code 0) (sym c.as_slice-tys-in-Tuple.ensures)) c.in_ok-free_parts-in-Tuple.ensures.sends;
+      flows = flows_as m types (each 1 (λ ty. 0) code 0 c.as_slice-tys-in-Tuple.result.now) (free_code types (wit.Id c.args.id) c.args.offset) (c.args.address.now ∷ []) [] _ _ (free_tuple_code types c.requires.down c.args.id d at c.args.offset tys is ∙ ap (each 1 (λ ty. 0) code 0) (sym c.as_slice-tys-in-Tuple.ensures)) c.in_ok-free_parts-in-Tuple.ensures.flows;
     }
 
 pub free_id-returns-in-Enum : goal.free_id-returns-in-Enum
@@ -186,7 +186,7 @@ free_id-returns-in-Enum g t c =
     let is = kind_at c.as_slice-types.result.now c.args.id.0 d (kind.Enum members) c.index-types-at.is c.in-Enum.is in
     record {
       frees = frees_as m g.met.B.Bindgen.sound types _ _ _ _ c.args.address.now c.args.offset (enum_shape types c.requires.down c.args.id.0 d at members is) (enum_frees m g.met.B.Bindgen.sound types members _ c.args.address.now c.args.offset);
-      sends = sends_as m types _ _ _ _ (free_enum_code types c.requires.down c.args.id d at c.args.offset members is) refl;
+      flows = flows_as m types leave_none (free_code types (wit.Id c.args.id) c.args.offset) (c.args.address.now ∷ []) [] _ _ (free_enum_code types c.requires.down c.args.id d at c.args.offset members is) (refl, refl);
     }
 
 pub free_id-returns-in-Flags : goal.free_id-returns-in-Flags
@@ -199,13 +199,13 @@ free_id-returns-in-Flags g t c =
     let is = kind_at c.as_slice-types.result.now c.args.id.0 d (kind.Flags members) c.index-types-at.is c.in-Flags.is in
     record {
       frees = frees_as m g.met.B.Bindgen.sound types _ _ _ _ c.args.address.now c.args.offset (flags_shape types c.requires.down c.args.id.0 d at members is) (flags_frees m g.met.B.Bindgen.sound types (length members) _ c.args.address.now c.args.offset);
-      sends = sends_as m types _ _ _ _ (free_flags_code types c.requires.down c.args.id d at c.args.offset members is) refl;
+      flows = flows_as m types leave_none (free_code types (wit.Id c.args.id) c.args.offset) (c.args.address.now ∷ []) [] _ _ (free_flags_code types c.requires.down c.args.id d at c.args.offset members is) (refl, refl);
     }
 
 pub free_parts-loop-i-init : goal.free_parts-loop-i-init
 free_parts-loop-i-init g t c =
     let m = g.B.Bindgen.meaning in
-    record { adds = adds_same m _; sent = refl; rest = λ new h. h }
+    record { adds = adds_same m _; flows = λ new gives h. h; rest = λ new h. h }
 
 pub free_parts-free_type-requires : goal.free_parts-free_type-requires
 free_parts-free_type-requires g t c κs within =
@@ -239,9 +239,12 @@ free_parts-loop-i-preserved g t c =
     let found = c.part_place-place.ensures types c.requires.parts.0 knows c.requires.parts.1 (no_alias m.width types c.args.id.0 tys c.requires.parts) in
     let place = place_told m.width c.part_place-place.result c.args.offset found.0 (λ w. slice_index (field_offsets w tree) i) g.met.B.Bindgen.sound.wide found.1 found.2 in
     let here = ap (free_code types (get_or tys i wit.Bool)) (sym (place_sent c.part_place-place.result c.args.offset found.0 tree i found.1 found.2)) in
+    let reads = c.args.address.now ∷ [] in
+    let code : ℕ → WitType → Flow = λ n ty. free_code types ty (beyond c.args.offset (place_in tree n)) in
+    let flow = flows_as m types (free_code types (get_or tys i wit.Bool) c.part_place-place.result) (code i (get_or tys i wit.Bool)) reads [] c.loop-i.bindgen c.free_type.new.bindgen here c.in_ok-free_type.ensures.flows in
     record {
       adds = adds_both m _ _ _ c.loop-i.invariant.adds c.in_ok-free_type.ensures.frees.adds;
-      sent = sends_next m types (λ n ty. free_code types ty (beyond c.args.offset (place_in tree n))) tys i wit.Bool _ _ _ short c.loop-i.invariant.sent (sends_as m types _ _ _ _ here c.in_ok-free_type.ensures.sends);
+      flows = flows_next m types 1 (λ ty. 0) code reads tys reads c.args.bindgen.now i wit.Bool [] [] [] [] [] c.loop-i.bindgen c.free_type.new.bindgen short refl refl refl flow c.loop-i.invariant.flows;
       rest = rest_next m g.met.B.Bindgen.sound types tys c.args.address.now c.args.offset c.part_place-place.result i _ _ _ (get_or tys i wit.Bool)
           (drop_more tys i wit.Bool short)
           (behind_next m.width types tys i wit.Bool short)
@@ -254,10 +257,10 @@ free_parts-returns g t c =
     let m = g.B.Bindgen.meaning in
     let ended : length c.args.tys.now ≤ c.loop-i.i = omega (arith, c.loop-i-test.false) in
     let types = c.args.resolve.now.types in
-    let code : ℕ → WitType → List Sent = λ n ty. free_code types ty (beyond c.args.offset (place_in (tree_at types c.args.id.0) n)) in
+    let code : ℕ → WitType → Flow = λ n ty. free_code types ty (beyond c.args.offset (place_in (tree_at types c.args.id.0) n)) in
     record {
       frees = rest_last m g.met.B.Bindgen.sound types c.args.tys.now c.args.address.now c.args.offset c.loop-i.i _ _ ended c.loop-i.invariant.rest;
-      sends = sends_last m types code c.args.tys.now c.loop-i.i _ _ ended c.loop-i.invariant.sent;
+      flows = flows_last m types 1 (λ ty. 0) code (c.args.address.now ∷ []) c.args.tys.now (c.args.address.now ∷ []) c.args.bindgen.now c.loop-i.i [] [] _ ended c.loop-i.invariant.flows;
     }
 
 pub free_type-returns-in-Some : goal.free_type-returns-in-Some
@@ -267,7 +270,7 @@ free_type-returns-in-Some g t c =
     let is = sym c.scalar_lifting.ensures ∙ c.in-Some.is in
     record {
       frees = scalar_frees m g.met.B.Bindgen.sound types c.args.ty c.in-Some._lift c.args.bindgen.now c.args.address.now c.args.offset is;
-      sends = sends_as m types [] _ _ _ (free_scalar_code types c.args.offset c.args.ty c.in-Some._lift is) refl;
+      flows = flows_as m types leave_none (free_code types c.args.ty c.args.offset) (c.args.address.now ∷ []) [] _ _ (free_scalar_code types c.args.offset c.args.ty c.in-Some._lift is) (refl, refl);
     }
 
 pub free_id-free_variant-requires : goal.free_id-free_variant-requires
@@ -375,12 +378,12 @@ free_variant-returns g t c =
     let most = few_payloads types c.args.id.0 tys shape c.requires.serves in
     let some = sym c.id_has_list.ensures ∙ c.if-not-id_has_list.false in
     freed_variant m g.met.B.Bindgen.sound types c.requires.down c.args.id d at k has is some c.args.address.now c.in_ok-tag.tag c.args.offset c.payload_place-place.result found tys same (length tys) refl most _ _ _ _
-    c.in_ok-tag.ensures c.in_ok-free_cases.ensures.frees c.in_ok-free_cases.ensures.sends c.in_ok-run_case.ensures
+    c.in_ok-tag.ensures c.in_ok-free_cases.ensures.frees c.in_ok-free_cases.ensures.flows c.in_ok-run_case.ensures
 
 pub free_cases-loop-i-init : goal.free_cases-loop-i-init
 free_cases-loop-i-init g t c =
     let m = g.B.Bindgen.meaning in
-    record { resumes = resumes_same m _; sent = refl; rest = λ new h. h }
+    record { resumes = resumes_same m _; flows = λ new gives h. h; rest = λ new h. h }
 
 pub free_cases-free_case-requires : goal.free_cases-free_case-requires
 free_cases-free_case-requires g t c κs within =
@@ -399,10 +402,11 @@ free_cases-loop-i-preserved g t c =
     let i = c.loop-i.i in
     let short : i < length ps = omega (arith, c.loop-i-test.true) in
     let one = c.in_ok-free_case.ensures in
-    let code : ℕ → Option WitType → List Sent = λ n p. opens ∷ at_payload c.args.place (option_map (free_code types) p) ++ closes ∷ [] in
+    let code : ℕ → Option WitType → Flow = λ n p. in_block (at_payload c.args.place (option_map (λ ty. (ty, free_code types ty)) p)) in
+    let reads = c.args.address.now ∷ [] in
     record {
       resumes = resumes_both m _ _ _ c.loop-i.invariant.resumes one.frees.adds.resumes;
-      sent = sends_next m types code ps i None _ _ _ short c.loop-i.invariant.sent one.sends;
+      flows = flows_next m types 1 (λ payload. 0) code reads ps reads c.args.bindgen.now i None [] [] [] [] [] c.loop-i.bindgen c.free_case.new.bindgen short refl refl refl one.flows c.loop-i.invariant.flows;
       rest = next_case m g.met.B.Bindgen.sound types ps c.args.address.now c.args.place i _ _ _ (get_or ps i None) (drop_more ps i None short) one.frees c.loop-i.invariant.rest;
     }
 
@@ -412,10 +416,11 @@ free_cases-returns g t c =
     let types = c.args.resolve.now.types in
     let ps = c.args.payloads.now in
     let ended : length ps ≤ c.loop-i.i = omega (arith, c.loop-i-test.false) in
-    let code : ℕ → Option WitType → List Sent = λ n p. opens ∷ at_payload c.args.place (option_map (free_code types) p) ++ closes ∷ [] in
+    let code : ℕ → Option WitType → Flow = λ n p. in_block (at_payload c.args.place (option_map (λ ty. (ty, free_code types ty)) p)) in
+    let reads = c.args.address.now ∷ [] in
     record {
       frees = last_case m g.met.B.Bindgen.sound types ps c.args.address.now c.args.place c.loop-i.i _ _ ended c.loop-i.invariant.rest;
-      sends = sends_last m types code ps c.loop-i.i _ _ ended c.loop-i.invariant.sent;
+      flows = flows_last m types 1 (λ payload. 0) code reads ps reads c.args.bindgen.now c.loop-i.i [] [] _ ended c.loop-i.invariant.flows;
     }
 
 pub free_case-free_payload-requires : goal.free_case-free_payload-requires
@@ -432,11 +437,11 @@ free_case-returns-in_ok-empty_block-in-None g t c =
     let block = c.in_ok-empty_block-in-None.ensures in
     let types = c.args.resolve.now.types in
     let bare = bare_frees m g.met.B.Bindgen.sound c.args.address.now c.args.place _ _ _ block.1 block.2 in
-    let steps = sends_block m types [] [] _ _ _ _ block.1 refl block.2 in
     let end = c.empty_block.new.bindgen in
+    let empty = flows_block m types leave_none (c.args.address.now ∷ []) [] c.args.bindgen.now block.0 block.0 end block.1 (refl, refl) block.2 in
     record {
       frees = subst (λ (p : Option WitType). FreesPayload m (payload_in (shapes types) p) c.args.address.now c.args.place c.args.bindgen.now end) (sym c.in-None.is) bare;
-      sends = subst (λ (p : Option WitType). Sends m types (opens ∷ at_payload c.args.place (option_map (free_code types) p) ++ closes ∷ []) c.args.bindgen.now end) (sym c.in-None.is) steps;
+      flows = subst (λ (p : Option WitType). Flows m types (in_block (at_payload c.args.place (option_map (λ ty. (ty, free_code types ty)) p))) (c.args.address.now ∷ []) [] c.args.bindgen.now end) (sym c.in-None.is) empty;
     }
 
 pub free_payload-free_type-requires : goal.free_payload-free_type-requires
@@ -462,5 +467,5 @@ free_payload-returns g t c =
     let ends = c.in_ok-close.ensures in
     record {
       frees = payload_frees m g.met.B.Bindgen.sound (shape_of types c.args.ty) c.args.address.now c.args.place _ _ _ _ begins part.frees ends;
-      sends = sends_block m types (free_code types c.args.ty c.args.place) [] _ _ _ _ begins part.sends ends;
+      flows = flows_block m types (free_code types c.args.ty c.args.place) (c.args.address.now ∷ []) [] _ _ _ _ begins part.flows ends;
     }

@@ -1,12 +1,14 @@
-use Rattle.std.proofs.Common.{◌<◌, ◌≤◌, List, length, get_or, slice_index, refl, sym, ap, subst, arith}
+use Rattle.std.proofs.Common.{◌<◌, ◌≤◌, List, length, get_or, slice_index, refl, sym, ap, subst, arith, ℕ, [], ◌∷◌}
 use Rattle.std.proofs.lemmas.List.{drop_more}
+use Rattle.wit_model.specs.declared.types.WitType.{WitType}
 use Rattle.wit_model.specs.declared.size.ArchitectureSize.{ArchitectureSize}
 use Rattle.wit_model.specs.declared.types.WitType.TheVariants as wit
 use Rattle.wit_layout.specs.Sizes.{field_offsets}
 use Rattle.wit_layout.specs.Told.{IsPairOf}
 use Rattle.wit_layout.specs.Tree.{record_of}
-use Rattle.abi_bindgen.specs.Code.{free_code, place_in}
+use Rattle.abi_bindgen.specs.Code.{free_code, argument_place}
 use Rattle.abi_bindgen.specs.Frees.{nowhere}
+use Rattle.abi_bindgen.specs.Flow.{Flow}
 use Rattle.abi_bindgen.proofs.Serving.{part_served}
 use Rattle.abi_driver.proofs.LowPlaces.{small_fits, small_part}
 use Rattle.abi_driver.proofs.FreeSteps.{rest_last, rest_next}
@@ -14,11 +16,11 @@ use Rattle.abi_driver.proofs.PartOffsets.{behind_next, pair_is}
 use Rattle.abi_driver.proofs.RecordPlaces.{have_places, record_place}
 use Rattle.abi_bindgen.proofs.Records.{part_below_within}
 use Rattle.abi_bindgen.proofs.Runs.{adds_both, adds_same}
-use Rattle.abi_bindgen.proofs.SendSteps.{sends_as, sends_last, sends_next}
+use Rattle.abi_bindgen.proofs.FlowSteps.{flows_as, flows_next, flows_last}
 use Rattle.abi_driver.proofs.dealloc.memory.free_record.Goals as goal
 
 pub loop-i-init : goal.loop-i-init
-loop-i-init g c = record { adds = adds_same g.B.Bindgen.meaning c.args.bindgen.now; sent = refl; rest = λ new h. h }
+loop-i-init g c = record { adds = adds_same g.B.Bindgen.meaning c.args.bindgen.now; flows = λ new gives h. h; rest = λ new h. h }
 
 pub free_type-requires : goal.free_type-requires
 free_type-requires g c =
@@ -54,9 +56,12 @@ loop-i-preserved g c =
     let filled = c.sizes.ensures types c.requires.knows in
     let pair = subst (λ (ps : List ArchitectureSize). IsPairOf (get_or ps i nowhere) (λ w. slice_index (field_offsets w (record_of types tys)) i)) (sym c.as_slice.ensures) (c.in_ok-places.ensures.each types i nowhere filled short) in
     let here = ap (free_code types (get_or tys i wit.Bool)) (sym (pair_is (get_or c.as_slice.result.now i nowhere) (λ w. slice_index (field_offsets w (record_of types tys)) i) pair)) in
+    let reads = c.args.address.now ∷ [] in
+    let code : ℕ → WitType → Flow = λ n ty. free_code types ty (argument_place types tys n) in
+    let flow = flows_as m types (free_code types (get_or tys i wit.Bool) (get_or c.as_slice.result.now i nowhere)) (code i (get_or tys i wit.Bool)) reads [] c.loop-i.bindgen c.free_type.new.bindgen here c.in_ok-free_type.ensures.flows in
     record {
       adds = adds_both m _ _ _ c.loop-i.invariant.adds c.in_ok-free_type.ensures.frees.adds;
-      sent = sends_next m types (λ n ty. free_code types ty (place_in (record_of types tys) n)) tys i wit.Bool _ _ _ short c.loop-i.invariant.sent (sends_as m types _ _ _ _ here c.in_ok-free_type.ensures.sends);
+      flows = flows_next m types 1 (λ ty. 0) code reads tys reads c.args.bindgen.now i wit.Bool [] [] [] [] [] c.loop-i.bindgen c.free_type.new.bindgen short refl refl refl flow c.loop-i.invariant.flows;
       rest = rest_next m sound types tys c.args.address.now nowhere (get_or c.as_slice.result.now i nowhere) i _ _ _ (get_or tys i wit.Bool)
           (drop_more tys i wit.Bool short)
           (behind_next m.width types tys i wit.Bool short)
@@ -72,5 +77,5 @@ returns g c =
     let tys = c.args.types.now in
     record {
       frees = rest_last m g.met.B.Bindgen.sound types tys c.args.address.now nowhere c.loop-i.i _ _ ended c.loop-i.invariant.rest;
-      sends = sends_last m types (λ n ty. free_code types ty (place_in (record_of types tys) n)) tys c.loop-i.i _ _ ended c.loop-i.invariant.sent;
+      flows = flows_last m types 1 (λ ty. 0) (λ n ty. free_code types ty (argument_place types tys n)) (c.args.address.now ∷ []) tys (c.args.address.now ∷ []) c.args.bindgen.now c.loop-i.i [] [] _ ended c.loop-i.invariant.flows;
     }

@@ -4,6 +4,7 @@ use Rattle.wit_model.specs.Reaches.{reaches_itself}
 use Rattle.wit_layout.specs.Extent.{flag_words}
 use Rattle.wit_layout.specs.Flat.{words_of_flags}
 use Rattle.abi_bindgen.specs.FlagSets.{AreFlags}
+use Rattle.abi_bindgen.specs.Flow.{emit}
 use Rattle.abi_bindgen.specs.Instructions.{Emits}
 use Rattle.abi_bindgen.specs.declared.instruction.Instruction.TheVariants.{FlagsLift}
 use Rattle.abi_driver.proofs.FlagSteps.{flags_lifts}
@@ -11,7 +12,7 @@ use Rattle.abi_bindgen.proofs.FlagLowers.{one_count}
 use Rattle.abi_bindgen.proofs.FlatCode.{lift_flags_code}
 use Rattle.abi_driver.proofs.LiftSteps.{lifts_as}
 use Rattle.abi_bindgen.proofs.Records.{flags_shape}
-use Rattle.abi_bindgen.proofs.SendSteps.{sends_as, sends_one}
+use Rattle.abi_bindgen.proofs.FlowSteps.{flows_as}
 use Rattle.abi_bindgen.proofs.WordCounts.{length_words}
 use Rattle.abi_driver.proofs.lift.flags.lift_flags.Goals as goal
 
@@ -56,5 +57,6 @@ returns g c =
     record {
       next = ap (λ n. at + n) many;
       lifts = lifts_as m g.met.B.Bindgen.sound types _ _ _ _ words at _ _ shape (used, split, flags_lifts m g.met.B.Bindgen.sound types c.args.id (length members) _ _ used c.in_ok-operand.operand (members, here, refl) len e);
-      sends = sends_as m types _ _ _ _ (lift_flags_code types c.requires.down c.args.id here.entry here.stands members here.kind) (sends_one m types (FlagsLift c.args.id) _ _ _ _ e);
+      flows = flows_as m types (emit (FlagsLift c.args.id)) _ _ _ _ _ (lift_flags_code types c.requires.down c.args.id here.entry here.stands members here.kind)
+          (subst (λ k. Emits m types (FlagsLift c.args.id) (take k (drop at words)) (c.in_ok-operand.operand ∷ []) c.args.bindgen.now c.send_one.new.bindgen) (same ∙ many) e);
     }

@@ -1,10 +1,11 @@
-use Rattle.std.proofs.Common.{◌<◌, List, [], ◌∷◌, length, refl, subst, arith}
+use Rattle.std.proofs.Common.{◌<◌, List, [], ◌∷◌, length, take, refl, sym, ap, subst}
+use Rattle.abi_bindgen.specs.Flow.{emit}
 use Rattle.abi_bindgen.specs.Instructions.{Emits}
 use Rattle.abi_bindgen.proofs.FlatCode.{lift_scalar_code}
 use Rattle.abi_driver.proofs.LeafLoads.{lift_makes, lift_sendable}
 use Rattle.abi_driver.proofs.LiftSteps.{scalar_lifts}
 use Rattle.abi_bindgen.proofs.Records.{drop-same}
-use Rattle.abi_bindgen.proofs.SendSteps.{sends_as, sends_one}
+use Rattle.abi_bindgen.proofs.FlowSteps.{flows_as}
 use Rattle.abi_driver.proofs.lift.leaf.lift_scalar.Goals as goal
 
 pub send_one-requires : goal.send_one-requires
@@ -19,12 +20,14 @@ returns g c =
     let types = c.args.resolve.now.types in
     let e = subst (λ (os : List g.row.B-Operand.Denot). Emits m types c.args.inst os (c.in_ok-operand.operand ∷ []) c.args.bindgen.now c.send_one.new.bindgen) c.in_ok-operands.ensures c.in_ok-operand.ensures in
     let short : c.args.at < length c.args.words.now = c.requires.enough in
+    let front = drop-same c.args.words.now c.args.words.now c.args.at c.in_ok-word.word c.index-words-at.result refl short c.index-words-at.is c.in_ok-word.ensures in
     record {
       next = refl;
       lifts = (
         c.in_ok-word.word ∷ [],
-        drop-same c.args.words.now c.args.words.now c.args.at c.in_ok-word.word c.index-words-at.result refl short c.index-words-at.is c.in_ok-word.ensures,
+        front,
         scalar_lifts m g.met.B.Bindgen.sound types c.args.ty c.args.inst _ _ c.in_ok-word.word c.in_ok-operand.operand c.requires.lifting e,
       );
-      sends = sends_as m types _ _ _ _ (lift_scalar_code types c.args.ty c.args.inst c.requires.lifting) (sends_one m types c.args.inst _ _ _ _ c.in_ok-operand.ensures);
+      flows = flows_as m types (emit c.args.inst) _ _ _ _ _ (lift_scalar_code types c.args.ty c.args.inst c.requires.lifting)
+          (subst (λ os. Emits m types c.args.inst os (c.in_ok-operand.operand ∷ []) c.args.bindgen.now c.send_one.new.bindgen) (ap (take 1) (sym front)) e);
     }

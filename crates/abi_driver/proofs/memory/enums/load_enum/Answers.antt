@@ -6,6 +6,7 @@ use Rattle.abi_bindgen.specs.Instructions.{Emits}
 use Rattle.abi_bindgen.specs.NumberTouches.{tag_load}
 use Rattle.abi_bindgen.specs.declared.instruction.Instruction.{Instruction}
 use Rattle.abi_bindgen.specs.declared.instruction.Instruction.TheVariants.{EnumLift}
+use Rattle.abi_bindgen.specs.Flow.{emit}
 use Rattle.abi_bindgen.proofs.EnumLowers.{enum_cases}
 use Rattle.abi_driver.proofs.EnumSteps.{enum_loads}
 use Rattle.abi_driver.proofs.LoadSteps.{loads_as}
@@ -13,7 +14,7 @@ use Rattle.abi_driver.proofs.MemoryCode.{load_enum_code}
 use Rattle.abi_driver.proofs.NumberWords.{number_load_adds}
 use Rattle.abi_driver.proofs.Sendable.{makeable_number_load}
 use Rattle.abi_bindgen.proofs.Records.{enum_shape}
-use Rattle.abi_bindgen.proofs.SendSteps.{sends_as, sends_two}
+use Rattle.abi_bindgen.proofs.FlowSteps.{flows_as, flows_then}
 use Rattle.abi_driver.proofs.memory.enums.load_enum.Goals as goal
 
 pub load_word-requires : goal.load_word-requires
@@ -45,5 +46,6 @@ returns g c =
     let row = subst (λ ts. LiftsEnum m ts (c.in_ok-tag.tag ∷ []) (c.in_ok-operand.operand ∷ []) c.load_word.new.bindgen c.send_one.new.bindgen) (enum_cases types c.args.id.0 members here) e.row in
     record {
       loads = loads_as m sound types _ _ _ _ c.args.address.now c.in_ok-operand.operand c.args.offset shape (enum_loads m sound types members _ _ _ c.args.address.now c.in_ok-tag.tag c.in_ok-operand.operand c.args.offset load e.adds row);
-      sends = sends_as m types _ _ _ _ (load_enum_code types c.requires.down c.args.id here.entry here.stands c.args.offset members here.kind) (sends_two m types (tag_load (length members) c.args.offset) (EnumLift c.args.id) _ _ _ _ _ _ _ load e);
+      flows = flows_as m types _ _ _ _ _ _ (load_enum_code types c.requires.down c.args.id here.entry here.stands c.args.offset members here.kind)
+          (flows_then m types (emit (tag_load (length members) c.args.offset)) (emit (EnumLift c.args.id)) (c.args.address.now ∷ []) (c.in_ok-tag.tag ∷ []) (c.in_ok-operand.operand ∷ []) _ _ _ load e);
     }

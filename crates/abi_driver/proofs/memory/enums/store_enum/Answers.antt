@@ -4,14 +4,16 @@ use Rattle.abi_bindgen.specs.Instructions.{Emits}
 use Rattle.abi_bindgen.specs.NumberTouches.{tag_store}
 use Rattle.abi_bindgen.specs.declared.instruction.Instruction.{Instruction}
 use Rattle.abi_bindgen.specs.declared.instruction.Instruction.TheVariants.{EnumLower}
+use Rattle.abi_bindgen.specs.Flow.{emit}
 use Rattle.abi_bindgen.proofs.EnumLowers.{enum_lowers}
 use Rattle.abi_driver.proofs.EnumSteps.{enum_stores}
 use Rattle.abi_driver.proofs.LeafStores.{one_of}
 use Rattle.abi_driver.proofs.MemoryCode.{store_enum_code}
 use Rattle.abi_driver.proofs.Sendable.{makeable_number_store}
 use Rattle.abi_bindgen.proofs.Records.{enum_shape}
-use Rattle.abi_bindgen.proofs.SendSteps.{sends_as, sends_two}
+use Rattle.abi_bindgen.proofs.FlowSteps.{flows_as}
 use Rattle.abi_driver.proofs.StoreSteps.{stores_as}
+use Rattle.abi_driver.proofs.FlowStores.{flows_stored}
 use Rattle.abi_driver.proofs.memory.enums.store_enum.Goals as goal
 
 pub store_word-requires : goal.store_word-requires
@@ -37,6 +39,6 @@ returns g c =
     record {
       stores = λ realloc. stores_as m sound types realloc _ _ _ _ c.args.value c.args.address.now c.args.offset shape
           (enum_stores m sound types realloc members _ _ _ c.args.value tag c.args.address.now c.args.offset most (enum_lowers m types realloc c.args.id members _ _ c.args.value (tag ∷ []) most here e) store);
-      sends = λ realloc. sends_as m types _ _ _ _ (store_enum_code types c.requires.down c.args.id here.entry here.stands c.args.offset realloc members here.kind)
-          (sends_two m types (EnumLower c.args.id) (tag_store (length members) c.args.offset) _ _ _ _ _ _ _ e store);
+      flows = λ realloc. flows_as m types _ _ _ _ _ _ (store_enum_code types c.requires.down c.args.id here.entry here.stands c.args.offset realloc members here.kind)
+          (flows_stored m types (emit (EnumLower c.args.id)) (tag_store (length members) c.args.offset) c.args.address.now c.args.value tag _ _ _ e store);
     }

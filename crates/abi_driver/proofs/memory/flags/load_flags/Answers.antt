@@ -1,4 +1,4 @@
-use Rattle.std.proofs.Common.{◌≡◌, ℕ, ◌+◌, List, [], ◌∷◌, ◌++◌, length, refl, sym, ap, ap₂, ◌∙◌, subst, arith}
+use Rattle.std.proofs.Common.{◌≡◌, ◌+◌, List, [], ◌∷◌, length, refl, sym, ap, ap₂, ◌∙◌, subst, arith}
 use Rattle.std.proofs.lemmas.List.{length-append}
 use Rattle.wit_model.specs.Reaches.{reaches_itself}
 use Rattle.wit_layout.specs.Extent.{flag_words, flags_extent}
@@ -6,21 +6,22 @@ use Rattle.wit_layout.specs.Flat.{words_of_flags}
 use Rattle.wrapper_meaning.specs.Shape.{Shape}
 use Rattle.abi_bindgen.specs.FlagSets.{AreFlags}
 use Rattle.abi_bindgen.specs.Instructions.{Emits}
-use Rattle.abi_bindgen.specs.NumberTouches.{flags_load, number_load}
-use Rattle.abi_bindgen.specs.Sent.{Sent, sends}
+use Rattle.abi_bindgen.specs.NumberTouches.{number_load}
 use Rattle.abi_bindgen.specs.declared.instruction.Instruction.{Instruction}
 use Rattle.abi_bindgen.specs.declared.instruction.Instruction.TheVariants.{FlagsLift}
+use Rattle.abi_bindgen.specs.Flow.{emit}
+use Rattle.abi_bindgen.specs.Code.{load_words}
 use Rattle.abi_bindgen.proofs.FlagLowers.{one_count}
 use Rattle.abi_driver.specs.Low.{EndsLow}
-use Rattle.abi_driver.proofs.FlagSteps.{each_alike, flags_grain_small, flags_loads, place_of}
+use Rattle.abi_driver.proofs.FlagSteps.{flags_grain_small, flags_loads, place_of}
 use Rattle.abi_driver.proofs.LoadSteps.{loads_as}
 use Rattle.abi_driver.proofs.LowPlaces.{flag_word_low}
 use Rattle.abi_driver.proofs.MemoryCode.{load_flags_code}
-use Rattle.abi_driver.proofs.NumberWords.{LoadedOn, loaded_adds, loaded_more, loaded_sends}
+use Rattle.abi_driver.proofs.NumberWords.{LoadedOn, loaded_adds, loaded_flows, loaded_more}
 use Rattle.abi_driver.proofs.Sendable.{makeable_number_load}
 use Rattle.abi_bindgen.proofs.Records.{flags_shape}
 use Rattle.abi_bindgen.proofs.WordCounts.{length_words}
-use Rattle.abi_bindgen.proofs.SendSteps.{sends_as, sends_both, sends_one}
+use Rattle.abi_bindgen.proofs.FlowSteps.{flows_as, flows_then}
 use Rattle.abi_driver.proofs.memory.flags.load_flags.Goals as goal
 
 pub loop-nth-init : goal.loop-nth-init
@@ -90,10 +91,9 @@ returns g c =
     let done : c.loop-nth.nth ≡ c.flag_words-count.result = omega (arith, c.loop-nth-test.false, c.loop-nth.auto.nth-end) in
     let many : length words ≡ flag_words n = c.loop-nth.invariant.count ∙ done ∙ c.flag_words-count.ensures ∙ ap flag_words c.len-flags.ensures in
     let shape = flags_shape types c.requires.down c.args.id.0 here.entry here.stands members here.kind in
-    let step : ℕ → List Sent = λ j. sends (flags_load n (place j)) ∷ [] in
-    let alike = each_alike step 0 (words_of_flags n) words (length_words n ∙ sym many) in
-    let steps = sends_both m types _ _ _ _ _ (loaded_sends m sound types grain (flags_grain_small n) place address 0 words _ _ loaded) (sends_one m types (FlagsLift c.args.id) _ _ _ _ e) in
+    let got = loaded_flows m sound types grain (flags_grain_small n) place address 0 (words_of_flags n) words _ _ (length_words n ∙ sym many) loaded in
+    let code = flows_then m types (load_words n c.args.offset) (emit (FlagsLift c.args.id)) (address ∷ []) words (operand ∷ []) _ _ _ got e in
     record {
       loads = loads_as m sound types _ _ _ _ address operand c.args.offset shape (flags_loads m sound types n _ _ _ address operand words c.args.offset many loaded e.adds (e.row n are));
-      sends = sends_as m types _ _ _ _ (load_flags_code types c.requires.down c.args.id here.entry here.stands c.args.offset members here.kind ∙ ap (λ steps. steps ++ sends (FlagsLift c.args.id) ∷ []) alike) steps;
+      flows = flows_as m types _ _ _ _ _ _ (load_flags_code types c.requires.down c.args.id here.entry here.stands c.args.offset members here.kind) code;
     }

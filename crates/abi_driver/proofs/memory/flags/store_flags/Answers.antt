@@ -1,4 +1,4 @@
-use Rattle.std.proofs.Common.{◌≡◌, ℕ, suc, ◌<◌, ◌+◌, ◌-◌, List, [], ◌∷◌, length, drop, reverse, refl, sym, ap, ap₂, ◌∙◌, subst, arith}
+use Rattle.std.proofs.Common.{◌≡◌, ℕ, suc, ◌<◌, ◌+◌, ◌-◌, List, [], ◌∷◌, length, drop, refl, sym, ap, ap₂, ◌∙◌, subst, arith}
 use Rattle.std.proofs.lemmas.List.{drop_all}
 use Rattle.wit_model.specs.Reaches.{reaches_itself}
 use Rattle.wit_layout.specs.Extent.{flags_extent}
@@ -6,20 +6,21 @@ use Rattle.wit_layout.specs.Flat.{words_of_flags}
 use Rattle.wrapper_meaning.specs.Shape.{Shape}
 use Rattle.abi_bindgen.specs.FlagSets.{AreFlags}
 use Rattle.abi_bindgen.specs.Instructions.{Emits}
-use Rattle.abi_bindgen.specs.NumberTouches.{flags_store, number_store}
-use Rattle.abi_bindgen.specs.Sent.{Sent, sends}
+use Rattle.abi_bindgen.specs.NumberTouches.{number_store}
 use Rattle.abi_bindgen.specs.declared.instruction.Instruction.{Instruction}
 use Rattle.abi_bindgen.specs.declared.instruction.Instruction.TheVariants.{FlagsLower}
+use Rattle.abi_bindgen.specs.Flow.{emit, leading, ◌>>>◌, behind}
+use Rattle.abi_bindgen.specs.Code.{behind_address, store_words}
 use Rattle.abi_bindgen.proofs.FlagLowers.{flags_lowers}
 use Rattle.abi_driver.specs.Low.{EndsLow}
-use Rattle.abi_driver.proofs.FlagSteps.{each_alike, flags_grain_small, flags_stores, place_of}
+use Rattle.abi_driver.proofs.FlagSteps.{flags_grain_small, flags_stores, place_of}
 use Rattle.abi_driver.proofs.LowPlaces.{flag_word_low}
 use Rattle.abi_driver.proofs.MemoryCode.{store_flags_code}
-use Rattle.abi_driver.proofs.NumberWords.{StoredBack, stored_sends}
+use Rattle.abi_driver.proofs.NumberWords.{StoredBack, stored_flows}
 use Rattle.abi_driver.proofs.Sendable.{makeable_number_store}
 use Rattle.abi_bindgen.proofs.Records.{drop-same, flags_shape}
 use Rattle.abi_bindgen.proofs.WordCounts.{length_words}
-use Rattle.abi_bindgen.proofs.SendSteps.{sends_as, sends_then}
+use Rattle.abi_bindgen.proofs.FlowSteps.{flows_as, flows_then, flows_both}
 use Rattle.abi_driver.proofs.StoreSteps.{stores_as}
 use Rattle.abi_driver.proofs.memory.flags.store_flags.Goals as goal
 
@@ -40,17 +41,17 @@ loop-behind-preserved g c =
     let types = c.args.resolve.now.types in
     let words = c.as_slice-words.result.now in
     let count = length words in
-    let behind = c.loop-behind.behind in
-    let nth = count - 1 - behind in
+    let past = c.loop-behind.behind in
+    let nth = count - 1 - past in
     let grain = (flags_extent (length c.args.members.now)).grain in
     let place = place_of c.args.offset in
     let address = c.args.address.now in
     let word = c.in_ok-word.word in
-    let room : behind < count = omega (arith, c.loop-behind-test.true) in
+    let room : past < count = omega (arith, c.loop-behind-test.true) in
     let short : nth < count = omega (arith, room) in
     let Stored : ℕ → List g.row.B-Operand.Denot → g.row.B.Denot → Type 0 = λ j os b. StoredBack m types grain place address j os c.lower_by.new.bindgen b in
-    let left : count - behind ≡ suc nth = omega (arith, room) in
-    let fewer : nth ≡ count - (behind + 1) = omega (arith, room) in
+    let left : count - past ≡ suc nth = omega (arith, room) in
+    let fewer : nth ≡ count - (past + 1) = omega (arith, room) in
     let later : Stored (suc nth) (drop (suc nth) words) c.loop-behind.bindgen = subst (λ j. Stored j (drop j words) c.loop-behind.bindgen) left c.loop-behind.invariant in
     let is = c.number_store-store.ensures ∙ ap₂ number_store (c.flags_grain-grain.ensures ∙ ap (λ n. (flags_extent n).grain) c.len.ensures) c.word_offset-place.ensures in
     let one = subst (λ (i : Instruction). Emits m types i (word ∷ address ∷ []) [] c.loop-behind.bindgen c.store_word.new.bindgen) is c.in_ok-store_word.ensures in
@@ -94,11 +95,12 @@ returns g c =
     let are : AreFlags types c.args.id.0 n = (members, here, refl) in
     let many : length (words_of_flags n) ≡ length words = sym (made.results n are) in
     let shape = flags_shape types c.requires.down c.args.id.0 here.entry here.stands members here.kind in
-    let step : ℕ → List Sent = λ j. sends (flags_store n (place j)) ∷ [] in
-    let steps = sends_then m types (FlagsLower c.args.id) (c.args.value ∷ []) words _ _ _ _ made (stored_sends m sound types grain (flags_grain_small n) place address 0 words _ _ stored) in
+    let behind_it = flows_then m types (behind 1) (emit (FlagsLower c.args.id)) (address ∷ c.args.value ∷ []) (c.args.value ∷ []) words _ _ _ (refl, refl) made in
+    let lowered = flows_both m types (leading 1) (behind 1 >>> emit (FlagsLower c.args.id)) (address ∷ c.args.value ∷ []) (address ∷ []) words _ _ _ (refl, refl) behind_it in
+    let put = stored_flows m sound types grain (flags_grain_small n) place address 0 (words_of_flags n) words _ _ many stored in
+    let code = flows_then m types (behind_address (emit (FlagsLower c.args.id))) (store_words n c.args.offset) (address ∷ c.args.value ∷ []) (address ∷ words) [] _ _ _ lowered put in
     record {
       stores = λ realloc. stores_as m sound types realloc _ _ _ _ c.args.value address c.args.offset shape
           (flags_stores m sound types realloc n _ _ _ c.args.value address words c.args.offset (flags_lowers m types realloc c.args.id n _ _ c.args.value words are made) stored);
-      sends = λ realloc. sends_as m types _ _ _ _
-          (store_flags_code types c.requires.down c.args.id here.entry here.stands c.args.offset realloc members here.kind ∙ ap (λ steps. sends (FlagsLower c.args.id) ∷ reverse steps) (each_alike step 0 (words_of_flags n) words many)) steps;
+      flows = λ realloc. flows_as m types _ _ _ _ _ _ (store_flags_code types c.requires.down c.args.id here.entry here.stands c.args.offset realloc members here.kind) code;
     }

@@ -1,4 +1,4 @@
-use Rattle.std.proofs.Common.{◌≡◌, ℕ, ◌<◌, ◌≤◌, ◌+◌, ◌^◌, true, List, [], ◌∷◌, ◌++◌, length, map, reverse, get_or, option_map, IfOk, OnOk, option_to_list, Option, None, refl, sym, ap, ◌∙◌, subst, arith}
+use Rattle.std.proofs.Common.{◌≡◌, ℕ, ◌<◌, ◌≤◌, ◌+◌, ◌^◌, true, List, [], ◌∷◌, ◌++◌, length, map, reverse, get_or, option_map, IfOk, option_to_list, Option, None, refl, sym, ap, ◌∙◌, subst, arith}
 use Rattle.std.specs.List.{AllByRecursion, list_all, slice_index}
 use Rattle.std.proofs.lemmas.Bool.{ltb-true}
 use Rattle.std.proofs.lemmas.List.{drop_more, length-append, length-map}
@@ -21,17 +21,17 @@ use Rattle.wrapper_meaning.specs.Shape.Shape.{cases}
 use Rattle.abi_bindgen.specs.declared.instruction.Instruction.{Instruction}
 use Rattle.abi_bindgen.specs.declared.instruction.Instruction.TheVariants.{RecordLift, TupleLift}
 use Rattle.abi_bindgen.specs.Cases.{payloads_of, result_counts}
-use Rattle.abi_bindgen.specs.Code.{at_payload, beyond, each, load_code, place_in}
+use Rattle.abi_bindgen.specs.Code.{at_payload, beyond, load_code, place_in}
 use Rattle.abi_bindgen.specs.HasList.{IsKindOf}
 use Rattle.abi_bindgen.specs.Instructions.{Emits, HasBlocks, IsRecord, IsSendable, Makes, case_lifting, shapes_of, has_cases}
 use Rattle.abi_bindgen.specs.Blocks.{Finishes}
 use Rattle.abi_driver.specs.LoadedCases.{LoadsCase}
-use Rattle.abi_bindgen.specs.Sends.{Sends}
 use Rattle.abi_driver.specs.Loads.{LiftsFromMemory, LoadsParts}
 use Rattle.abi_bindgen.specs.Places.{HasParts, IsOfParts}
-use Rattle.abi_bindgen.specs.Sent.{Sent, closes, opens, sends}
 use Rattle.abi_bindgen.specs.Served.{Serves, ServesAll}
 use Rattle.abi_bindgen.specs.Written.{Writes, WritesEach, WritesPart}
+use Rattle.abi_bindgen.specs.Flow.{Flow, emit, in_block, leave_none, each, ◌>>>◌}
+use Rattle.abi_bindgen.specs.Flows.{Flows}
 use Rattle.abi_driver.specs.Low.{EndsLow}
 use Rattle.abi_driver.proofs.CaseInstructions.{lifting_sendable}
 use Rattle.abi_driver.proofs.LiftedVariants.{lifting_makes}
@@ -49,7 +49,7 @@ use Rattle.abi_driver.proofs.PartOffsets.{behind_next, cases_no_alias, no_alias,
 use Rattle.abi_driver.proofs.RecordPlaces.{place_told}
 use Rattle.abi_bindgen.proofs.Records.{alias_below, alias_rank, alias_shape, count-shapes, entry_at, kind_at, one_record, part_below_table, part_ranked, payload_low, payload_type_low, record_below, record_shape, tuple_below, tuple_shape, tuple_short, type_below_table, type_ranked}
 use Rattle.abi_bindgen.proofs.Runs.{adds_both, adds_same}
-use Rattle.abi_bindgen.proofs.SendSteps.{sends_as, sends_block, sends_both, sends_last, sends_next, sends_one}
+use Rattle.abi_bindgen.proofs.FlowSteps.{flows_as, flows_then, flows_block, flows_next, flows_last}
 use Rattle.abi_driver.proofs.memory.load.+load.Goals as goal
 
 pub load_type-load_id-requires : goal.load_type-load_id-requires
@@ -76,7 +76,7 @@ load_type-returns-in-String g t c =
     let new = c.load_text.new.bindgen in
     record {
       loads = subst (λ (ty : WitType). IfOk c.load_text.result (λ r. LiftsFromMemory m (shape_of types ty) c.args.address.now c.args.offset r c.args.bindgen.now new)) (sym c.in-String.is) c.load_text.ensures.loads;
-      sends = subst (λ (ty : WitType). OnOk c.load_text.result (Sends m types (load_code types ty c.args.offset) c.args.bindgen.now new)) (sym c.in-String.is) c.load_text.ensures.sends;
+      flows = subst (λ (ty : WitType). IfOk c.load_text.result (λ r. Flows m types (load_code types ty c.args.offset) (c.args.address.now ∷ []) (r ∷ []) c.args.bindgen.now new)) (sym c.in-String.is) c.load_text.ensures.flows;
     }
 
 pub load_type-returns-in-Id : goal.load_type-returns-in-Id
@@ -86,7 +86,7 @@ load_type-returns-in-Id g t c =
     let new = c.load_id.new.bindgen in
     record {
       loads = subst (λ (ty : WitType). IfOk c.load_id.result (λ r. LiftsFromMemory m (shape_of types ty) c.args.address.now c.args.offset r c.args.bindgen.now new)) (sym c.in-Id.is) c.load_id.ensures.loads;
-      sends = subst (λ (ty : WitType). OnOk c.load_id.result (Sends m types (load_code types ty c.args.offset) c.args.bindgen.now new)) (sym c.in-Id.is) c.load_id.ensures.sends;
+      flows = subst (λ (ty : WitType). IfOk c.load_id.result (λ r. Flows m types (load_code types ty c.args.offset) (c.args.address.now ∷ []) (r ∷ []) c.args.bindgen.now new)) (sym c.in-Id.is) c.load_id.ensures.flows;
     }
 
 pub load_id-load_type-requires : goal.load_id-load_type-requires
@@ -180,7 +180,7 @@ load_id-returns-in-Alias g t c =
     let Loads : Shape → Type 0 = λ s. IfOk c.load_type.result (λ r. LiftsFromMemory m s c.args.address.now c.args.offset r c.args.bindgen.now new) in
     record {
       loads = subst Loads (sym (alias_shape types c.requires.down c.args.id.0 d at c.in-Alias.ty is)) c.load_type.ensures.loads;
-      sends = subst (λ (code : List Sent). OnOk c.load_type.result (Sends m types code c.args.bindgen.now new)) (sym (load_alias_code types c.requires.down c.args.id d at c.args.offset c.in-Alias.ty is)) c.load_type.ensures.sends;
+      flows = subst (λ (code : Flow). IfOk c.load_type.result (λ r. Flows m types code (c.args.address.now ∷ []) (r ∷ []) c.args.bindgen.now new)) (sym (load_alias_code types c.requires.down c.args.id d at c.args.offset c.in-Alias.ty is)) c.load_type.ensures.flows;
     }
 
 pub load_id-returns-in_ok-operand-in-Record : goal.load_id-returns-in_ok-operand-in-Record
@@ -194,11 +194,15 @@ load_id-returns-in_ok-operand-in-Record g t c =
     let same : c.as_slice-tys.result.now ≡ map (λ (f : Field). f.ty) members = c.as_slice-tys.ensures ∙ c.in_ok-tys-in-Record.ensures ∙ ap (map (λ (f : Field). f.ty)) c.as_slice.ensures in
     let loads = loads_parts_as m g.met.B.Bindgen.sound types _ _ _ _ c.in_ok-parts-in-Record.parts c.args.address.now c.args.offset 0 same c.in_ok-parts-in-Record.ensures.loads in
     let all = record_loads m g.met.B.Bindgen.sound types c.args.id members _ _ _ c.in_ok-parts-in-Record.parts c.args.address.now c.in_ok-operand-in-Record.operand c.args.offset (record { entry = d; at = at; kind = is }) loads c.in_ok-operand-in-Record.ensures in
-    let code : ℕ → WitType → List Sent = λ n ty. load_code types ty (beyond c.args.offset (place_in (tree_at types c.args.id.0) n)) in
-    let parts = sends_as m types _ _ _ _ (ap (each code 0) (sym same)) c.in_ok-parts-in-Record.ensures.sends in
+    let code : ℕ → WitType → Flow = λ n ty. load_code types ty (beyond c.args.offset (place_in (tree_at types c.args.id.0) n)) in
+    let address = c.args.address.now in
+    let read = c.in_ok-parts-in-Record.parts in
+    let all_code : Flow = each 1 (λ ty. 0) code 0 (map (λ (f : Field). f.ty) members) in
+    let parts = flows_as m types (each 1 (λ ty. 0) code 0 c.as_slice-tys.result.now) all_code (address ∷ []) read _ _ (ap (each 1 (λ ty. 0) code 0) (sym same)) c.in_ok-parts-in-Record.ensures.flows in
     record {
       loads = loads_as m g.met.B.Bindgen.sound types _ _ _ _ _ c.in_ok-operand-in-Record.operand c.args.offset (record_shape types c.requires.down c.args.id.0 d at members is) all;
-      sends = sends_as m types _ _ _ _ (load_record_code types c.requires.down c.args.id d at c.args.offset members is) (sends_both m types _ _ _ _ _ parts (sends_one m types (RecordLift c.args.id) _ _ _ _ c.in_ok-operand-in-Record.ensures));
+      flows = flows_as m types (all_code >>> emit (RecordLift c.args.id)) (load_code types (wit.Id c.args.id) c.args.offset) (address ∷ []) (c.in_ok-operand-in-Record.operand ∷ []) _ _ (load_record_code types c.requires.down c.args.id d at c.args.offset members is)
+          (flows_then m types all_code (emit (RecordLift c.args.id)) (address ∷ []) read (c.in_ok-operand-in-Record.operand ∷ []) _ _ _ parts c.in_ok-operand-in-Record.ensures);
     }
 
 pub load_id-returns-in_ok-operand-in-Tuple : goal.load_id-returns-in_ok-operand-in-Tuple
@@ -213,21 +217,28 @@ load_id-returns-in_ok-operand-in-Tuple g t c =
     let count = count-shapes types tys ∙ sym (c.part_count.ensures ∙ ap length c.as_slice-tys-in-Tuple.ensures) in
     let all = tuple_loads m g.met.B.Bindgen.sound types c.part_count.result (shapes_of types tys) _ _ _ c.in_ok-parts-in-Tuple.parts c.args.address.now c.in_ok-operand-in-Tuple.operand c.args.offset count loads c.in_ok-operand-in-Tuple.ensures in
     let many : length tys ≡ c.part_count.result = sym (c.part_count.ensures ∙ ap length c.as_slice-tys-in-Tuple.ensures) in
-    let code : ℕ → WitType → List Sent = λ n ty. load_code types ty (beyond c.args.offset (place_in (tree_at types c.args.id.0) n)) in
-    let parts = sends_as m types _ _ _ _ (ap (each code 0) (sym c.as_slice-tys-in-Tuple.ensures)) c.in_ok-parts-in-Tuple.ensures.sends in
-    let all_code = load_tuple_code types c.requires.down c.args.id d at c.args.offset tys is ∙ ap (λ n. each code 0 tys ++ sends (TupleLift n) ∷ []) many in
+    let code : ℕ → WitType → Flow = λ n ty. load_code types ty (beyond c.args.offset (place_in (tree_at types c.args.id.0) n)) in
+    let address = c.args.address.now in
+    let read = c.in_ok-parts-in-Tuple.parts in
+    let n = c.part_count.result in
+    let all_code : Flow = each 1 (λ ty. 0) code 0 tys in
+    let parts = flows_as m types (each 1 (λ ty. 0) code 0 c.as_slice-tys-in-Tuple.result.now) all_code (address ∷ []) read _ _ (ap (each 1 (λ ty. 0) code 0) (sym c.as_slice-tys-in-Tuple.ensures)) c.in_ok-parts-in-Tuple.ensures.flows in
+    let whole = load_tuple_code types c.requires.down c.args.id d at c.args.offset tys is ∙ ap (λ n. all_code >>> emit (TupleLift n)) many in
     record {
       loads = loads_as m g.met.B.Bindgen.sound types _ _ _ _ _ c.in_ok-operand-in-Tuple.operand c.args.offset (tuple_shape types c.requires.down c.args.id.0 d at tys is) all;
-      sends = sends_as m types _ _ _ _ all_code (sends_both m types _ _ _ _ _ parts (sends_one m types (TupleLift c.part_count.result) _ _ _ _ c.in_ok-operand-in-Tuple.ensures));
+      flows = flows_as m types (all_code >>> emit (TupleLift n)) (load_code types (wit.Id c.args.id) c.args.offset) (address ∷ []) (c.in_ok-operand-in-Tuple.operand ∷ []) _ _ whole
+          (flows_then m types all_code (emit (TupleLift n)) (address ∷ []) read (c.in_ok-operand-in-Tuple.operand ∷ []) _ _ _ parts c.in_ok-operand-in-Tuple.ensures);
     }
 
 pub load_parts-loop-i-init : goal.load_parts-loop-i-init
 load_parts-loop-i-init g t c =
     let m = g.B.Bindgen.meaning in
+    let types = c.args.resolve.now.types in
+    let code : Flow = each 1 (λ ty. 0) (λ n ty. load_code types ty (beyond c.args.offset (place_in (tree_at types c.args.id.0) n))) 0 c.args.tys.now in
     record {
       adds = adds_same m _;
       count = ap length c.new-parts.ensures;
-      sent = refl;
+      flows = λ new gives h. subst (λ ps. Flows m types code (c.args.address.now ∷ []) (ps ++ gives) c.args.bindgen.now new) (sym c.new-parts.ensures) h;
       rest = λ new later h.
           subst (λ (ps : List g.row.B-Operand.Denot). LoadsParts m (shapes_of c.args.resolve.now.types c.args.tys.now) c.args.address.now c.args.offset 0 (ps ++ later) c.args.bindgen.now new) (sym c.new-parts.ensures) h;
     }
@@ -265,9 +276,13 @@ load_parts-loop-i-preserved g t c =
     let found = c.part_place-place.ensures types c.requires.parts.0 knows c.requires.parts.1 (no_alias m.width types c.args.id.0 tys c.requires.parts) in
     let place = place_told m.width c.part_place-place.result c.args.offset found.0 (λ w. slice_index (field_offsets w tree) i) g.met.B.Bindgen.sound.wide found.1 found.2 in
     let here = ap (load_code types (get_or tys i wit.Bool)) (sym (place_sent c.part_place-place.result c.args.offset found.0 tree i found.1 found.2)) in
+    let address = c.args.address.now in
+    let part = c.in_ok-part.part in
+    let code : ℕ → WitType → Flow = λ n ty. load_code types ty (beyond c.args.offset (place_in tree n)) in
+    let flow = flows_as m types (load_code types (get_or tys i wit.Bool) c.part_place-place.result) (code i (get_or tys i wit.Bool)) (address ∷ []) (part ∷ []) c.loop-i.bindgen c.load_type.new.bindgen here c.in_ok-part.ensures.flows in
     record {
       adds = adds_both m _ _ _ c.loop-i.invariant.adds c.in_ok-part.ensures.loads.adds;
-      sent = sends_next m types (λ n ty. load_code types ty (beyond c.args.offset (place_in tree n))) tys i wit.Bool _ _ _ short c.loop-i.invariant.sent (sends_as m types _ _ _ _ here c.in_ok-part.ensures.sends);
+      flows = flows_next m types 1 (λ ty. 0) code (address ∷ []) tys (address ∷ []) c.args.bindgen.now i wit.Bool [] [] c.loop-i.parts (part ∷ []) c.push.new.self c.loop-i.bindgen c.load_type.new.bindgen short refl refl c.in_ok-push.ensures.ok flow c.loop-i.invariant.flows;
       count = ap length c.in_ok-push.ensures.ok ∙ length-append c.loop-i.parts (c.in_ok-part.part ∷ []) ∙ ap (λ n. n + 1) c.loop-i.invariant.count;
       rest = rest_next m g.met.B.Bindgen.sound types tys c.args.address.now c.args.offset c.part_place-place.result i c.loop-i.parts c.push.new.self _ _ _ (get_or tys i wit.Bool) c.in_ok-part.part
           (drop_more tys i wit.Bool short)
@@ -282,12 +297,12 @@ load_parts-returns-clause-loads g t c =
     let ended : length c.args.tys.now ≤ c.loop-i.i = omega (arith, c.loop-i-test.false) in
     rest_last m g.met.B.Bindgen.sound c.args.resolve.now.types c.args.tys.now c.args.address.now c.args.offset c.loop-i.i c.loop-i.parts _ _ ended c.loop-i.invariant.rest
 
-pub load_parts-returns-clause-sends : goal.load_parts-returns-clause-sends
-load_parts-returns-clause-sends g t c =
+pub load_parts-returns-clause-flows : goal.load_parts-returns-clause-flows
+load_parts-returns-clause-flows g t c =
     let types = c.args.resolve.now.types in
     let ended : length c.args.tys.now ≤ c.loop-i.i = omega (arith, c.loop-i-test.false) in
-    let code : ℕ → WitType → List Sent = λ n ty. load_code types ty (beyond c.args.offset (place_in (tree_at types c.args.id.0) n)) in
-    sends_last g.B.Bindgen.meaning types code c.args.tys.now c.loop-i.i _ _ ended c.loop-i.invariant.sent
+    let code : ℕ → WitType → Flow = λ n ty. load_code types ty (beyond c.args.offset (place_in (tree_at types c.args.id.0) n)) in
+    flows_last g.B.Bindgen.meaning types 1 (λ ty. 0) code (c.args.address.now ∷ []) c.args.tys.now (c.args.address.now ∷ []) c.args.bindgen.now c.loop-i.i c.loop-i.parts [] _ ended c.loop-i.invariant.flows
 
 pub load_id-load_variant-requires : goal.load_id-load_variant-requires
 load_id-load_variant-requires g t c κs within =
@@ -391,12 +406,12 @@ load_variant-returns g t c =
     let sent = subst (λ (i : Instruction). Emits m types i c.in_ok-operands.operands (c.in_ok-operand.operand ∷ []) c.load_cases.new.bindgen c.send_one.new.bindgen) c.case_lifting-lift.ensures c.in_ok-operand.ensures in
     let e = subst (λ (os : List g.row.B-Operand.Denot). Emits m types lift os (c.in_ok-operand.operand ∷ []) c.load_cases.new.bindgen c.send_one.new.bindgen) c.in_ok-operands.ensures sent in
     loaded_variant m g.met.B.Bindgen.sound types c.requires.down c.args.id d at k has is c.args.address.now tag c.in_ok-operand.operand c.args.offset c.payload_place-place.result found tys same most _ _ _ _ c.in_ok-tag.ensures
-    c.in_ok-load_cases.ensures.loads c.in_ok-load_cases.ensures.sends e
+    c.in_ok-load_cases.ensures.loads c.in_ok-load_cases.ensures.flows e
 
 pub load_cases-loop-i-init : goal.load_cases-loop-i-init
 load_cases-loop-i-init g t c =
     let m = g.B.Bindgen.meaning in
-    record { resumes = resumes_same m _; sent = refl; rest = λ new h. h }
+    record { resumes = resumes_same m _; flows = λ new gives h. h; rest = λ new h. h }
 
 pub load_cases-load_case-requires : goal.load_cases-load_case-requires
 load_cases-load_case-requires g t c κs within =
@@ -416,10 +431,11 @@ load_cases-loop-i-preserved g t c =
     let i = c.loop-i.i in
     let short : i < length ps = omega (arith, c.loop-i-test.true) in
     let one = c.in_ok-load_case.ensures in
-    let code : ℕ → Option WitType → List Sent = λ n p. opens ∷ at_payload c.args.place (option_map (load_code types) p) ++ closes ∷ [] in
+    let code : ℕ → Option WitType → Flow = λ n p. in_block (at_payload c.args.place (option_map (λ ty. (ty, load_code types ty)) p)) in
+    let reads = c.args.address.now ∷ [] in
     record {
       resumes = resumes_both m _ _ _ c.loop-i.invariant.resumes one.loads.adds.resumes;
-      sent = sends_next m types code ps i None _ _ _ short c.loop-i.invariant.sent one.sends;
+      flows = flows_next m types 1 (λ payload. 0) code reads ps reads c.args.bindgen.now i None [] [] [] [] [] c.loop-i.bindgen c.load_case.new.bindgen short refl refl refl one.flows c.loop-i.invariant.flows;
       rest = next_case m g.met.B.Bindgen.sound types ps c.args.address.now c.args.place i _ _ _ (get_or ps i None) (drop_more ps i None short) one.loads c.loop-i.invariant.rest;
     }
 
@@ -429,10 +445,11 @@ load_cases-returns g t c =
     let types = c.args.resolve.now.types in
     let ps = c.args.payloads.now in
     let ended : length ps ≤ c.loop-i.i = omega (arith, c.loop-i-test.false) in
-    let code : ℕ → Option WitType → List Sent = λ n p. opens ∷ at_payload c.args.place (option_map (load_code types) p) ++ closes ∷ [] in
+    let code : ℕ → Option WitType → Flow = λ n p. in_block (at_payload c.args.place (option_map (λ ty. (ty, load_code types ty)) p)) in
+    let reads = c.args.address.now ∷ [] in
     record {
       loads = last_case m g.met.B.Bindgen.sound types ps c.args.address.now c.args.place c.loop-i.i _ _ ended c.loop-i.invariant.rest;
-      sends = sends_last m types code ps c.loop-i.i _ _ ended c.loop-i.invariant.sent;
+      flows = flows_last m types 1 (λ payload. 0) code reads ps reads c.args.bindgen.now c.loop-i.i [] [] _ ended c.loop-i.invariant.flows;
     }
 
 pub load_case-load_payload-requires : goal.load_case-load_payload-requires
@@ -450,11 +467,11 @@ load_case-returns-in_ok-empty_block-in-None g t c =
     let block = c.in_ok-empty_block-in-None.ensures in
     let types = c.args.resolve.now.types in
     let bare = bare_loads m g.met.B.Bindgen.sound c.args.address.now c.args.place _ _ _ block.1 block.2 in
-    let steps = sends_block m types [] [] _ _ _ _ block.1 refl block.2 in
     let end = c.empty_block.new.bindgen in
+    let empty = flows_block m types leave_none (c.args.address.now ∷ []) [] c.args.bindgen.now block.0 block.0 end block.1 (refl, refl) block.2 in
     record {
       loads = subst (λ (p : Option WitType). LoadsCase m (length (option_to_list p)) (payload_in (shapes types) p) c.args.address.now c.args.place c.args.bindgen.now end) (sym c.in-None.is) bare;
-      sends = subst (λ (p : Option WitType). Sends m types (opens ∷ at_payload c.args.place (option_map (load_code types) p) ++ closes ∷ []) c.args.bindgen.now end) (sym c.in-None.is) steps;
+      flows = subst (λ (p : Option WitType). Flows m types (in_block (at_payload c.args.place (option_map (λ ty. (ty, load_code types ty)) p))) (c.args.address.now ∷ []) [] c.args.bindgen.now end) (sym c.in-None.is) empty;
     }
 
 pub load_payload-load_type-requires : goal.load_payload-load_type-requires
@@ -482,5 +499,5 @@ load_payload-returns g t c =
     let ends = subst (λ (os : List g.row.B-Operand.Denot). Finishes m os c.load_type.new.bindgen c.finish_block.new.self) c.in_ok-results.ensures c.in_ok-finish_block.ensures in
     record {
       loads = payload_loads m g.met.B.Bindgen.sound (shape_of types c.args.ty) some c.args.address.now c.in_ok-value.value c.args.place _ _ _ _ begins part.loads ends;
-      sends = sends_block m types (load_code types c.args.ty c.args.place) (c.in_ok-value.value ∷ []) _ _ _ _ begins part.sends ends;
+      flows = flows_block m types (load_code types c.args.ty c.args.place) (c.args.address.now ∷ []) (c.in_ok-value.value ∷ []) _ _ _ _ begins part.flows ends;
     }

@@ -1,11 +1,12 @@
 use Rattle.std.proofs.Common.{List, [], ◌∷◌, sym, ◌∙◌, subst}
 use Rattle.abi_bindgen.specs.Instructions.{Emits}
+use Rattle.abi_bindgen.specs.Flow.{emit}
 use Rattle.abi_driver.proofs.LeafLoads.{lift_makes, lift_sendable, scalar_loads}
 use Rattle.abi_driver.proofs.LiftSteps.{scalar_lifts}
 use Rattle.abi_driver.proofs.MemoryCode.{load_scalar_code}
 use Rattle.abi_driver.proofs.Sendable.{makeable_load}
-use Rattle.abi_bindgen.proofs.SendSteps.{sends_as, sends_two}
 use Rattle.abi_driver.proofs.ScalarTouched.{is_loaded}
+use Rattle.abi_bindgen.proofs.FlowSteps.{flows_as, flows_then}
 use Rattle.abi_driver.proofs.memory.load.load_scalar.Goals as goal
 
 pub unreachable-requires : goal.unreachable-requires
@@ -26,7 +27,8 @@ returns g c =
     record {
       loads = scalar_loads m sound types c.args.ty c.in-Some.load c.args.offset _ _ _ c.args.address.now c.in_ok-word.word c.in_ok-operand.operand is c.in_ok-word.ensures
           (scalar_lifts m sound types c.args.ty c.args.lift _ _ c.in_ok-word.word c.in_ok-operand.operand c.requires e);
-      sends = sends_as m types _ _ _ _ (load_scalar_code types c.args.offset c.args.ty c.in-Some.load c.args.lift is c.requires) (sends_two m types c.in-Some.load c.args.lift _ _ _ _ _ _ _ c.in_ok-word.ensures e);
+      flows = flows_as m types _ _ _ _ _ _ (load_scalar_code types c.args.offset c.args.ty c.in-Some.load c.args.lift is c.requires)
+          (flows_then m types (emit c.in-Some.load) (emit c.args.lift) (c.args.address.now ∷ []) (c.in_ok-word.word ∷ []) (c.in_ok-operand.operand ∷ []) _ _ _ c.in_ok-word.ensures e);
     }
 
 pub send_one-requires-clause-ready : goal.send_one-requires-clause-ready

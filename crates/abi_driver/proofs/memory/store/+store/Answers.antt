@@ -1,8 +1,9 @@
-use Rattle.std.proofs.Common.{◌≡◌, ℕ, ◌<◌, ◌≤◌, ◌+◌, ◌^◌, true, List, [], ◌∷◌, ◌++◌, length, map, replicate, pos, get_or, option_map, OnOk, Option, None, refl, sym, ap, ◌∙◌, subst, arith}
+use Rattle.std.proofs.Common.{◌≡◌, ℕ, ◌<◌, ◌≤◌, ◌+◌, ◌^◌, true, List, [], ◌∷◌, length, map, replicate, get_or, option_map, OnOk, Option, None, refl, sym, ap, ◌∙◌, subst, arith, drop, Some}
 use Rattle.std.specs.List.{AllByRecursion, list_all, slice_index}
 use Rattle.std.proofs.lemmas.Bool.{ltb-true}
 use Rattle.std.proofs.lemmas.List.{drop_more, length-map}
 use Rattle.std.proofs.lemmas.Option.{slice_get_within}
+use Rattle.wit_model.specs.declared.size.ArchitectureSize.{ArchitectureSize}
 use Rattle.wit_model.specs.Size.{bytes_at}
 use Rattle.wit_model.specs.Reaches.{reaches_itself}
 use Rattle.wit_model.specs.TypeOrder.{payload_below, type_below}
@@ -17,20 +18,20 @@ use Rattle.wit_layout.specs.Sizes.{field_offsets}
 use Rattle.wit_layout.specs.Told.{is_alias}
 use Rattle.wit_layout.specs.Tree.{tree_at}
 use Rattle.abi_bindgen.specs.declared.instruction.Instruction.{Instruction}
-use Rattle.abi_bindgen.specs.declared.instruction.Instruction.TheVariants.{I32Const, TupleLower, VariantPayloadName}
+use Rattle.abi_bindgen.specs.declared.instruction.Instruction.TheVariants.{TupleLower, VariantPayloadName, RecordLower}
 use Rattle.wrapper_meaning.specs.Shape.{Shape, payload_in, payloads_in, shape_of, shapes}
 use Rattle.wrapper_meaning.specs.Shape.Shape.{cases}
 use Rattle.abi_bindgen.specs.Cases.{payloads_of}
-use Rattle.abi_bindgen.specs.Code.{beyond, each, place_in, store_case, store_code}
+use Rattle.abi_bindgen.specs.Code.{beyond, place_in, store_case, store_code, behind_address, store_number}
 use Rattle.abi_bindgen.specs.HasList.{IsKindOf}
 use Rattle.abi_bindgen.specs.Instructions.{Emits, HasBlocks, IsSendable, shapes_of, has_cases}
 use Rattle.abi_bindgen.specs.NumberTouches.{tag_store}
 use Rattle.abi_bindgen.specs.Parts.{count}
 use Rattle.abi_bindgen.specs.Places.{HasParts, IsOfParts}
-use Rattle.abi_bindgen.specs.Sends.{Sends}
-use Rattle.abi_bindgen.specs.Sent.{Sent, closes, opens, sends}
 use Rattle.abi_bindgen.specs.Served.{Serves, ServesAll}
 use Rattle.abi_bindgen.specs.Written.{Writes, WritesEach, WritesPart}
+use Rattle.abi_bindgen.specs.Flow.{Flow, emit, in_block, leading, both, alone, ◌>>>◌, each}
+use Rattle.abi_bindgen.specs.Flows.{Flows}
 use Rattle.abi_driver.specs.Low.{EndsLow}
 use Rattle.abi_driver.specs.StoredCases.{StoresCase}
 use Rattle.abi_driver.specs.Stores.{LowersToMemory}
@@ -50,14 +51,15 @@ use Rattle.abi_driver.proofs.RecordPlaces.{place_told}
 use Rattle.abi_driver.proofs.StoreSteps.{record_stores, rest_last, rest_next, stores_as, stores_parts_as, tuple_stores}
 use Rattle.abi_bindgen.proofs.Records.{alias_below, alias_rank, alias_shape, count-shapes, drop-same, entry_at, kind_at, part_below_table, part_ranked, payload_low, payload_type_low, record_below, record_shape, tuple_below, tuple_shape, tuple_short, type_below_table, type_ranked}
 use Rattle.abi_bindgen.proofs.Runs.{adds_both, adds_same, side_later}
-use Rattle.abi_bindgen.proofs.SendSteps.{sends_as, sends_block, sends_last, sends_next, sends_then}
+use Rattle.abi_bindgen.proofs.FlowSteps.{FlowsOn, flows_as, flows_then, flows_both, flows_alone, flows_block, flows_next, flows_last}
+use Rattle.abi_driver.proofs.FlowStores.{flows_numbered, flows_behind_address}
 use Rattle.abi_driver.proofs.memory.store.+store.Goals as goal
 
 pub store_type-store_scalar-requires : goal.store_type-store_scalar-requires
 store_type-store_scalar-requires g t c = sym c.scalar_lowering.ensures ∙ c.in-Some.is
 
 pub store_type-returns-in-Some : goal.store_type-returns-in-Some
-store_type-returns-in-Some g t c = record { stores = c.store_scalar.ensures.stores c.args.realloc; sends = c.store_scalar.ensures.sends c.args.realloc }
+store_type-returns-in-Some g t c = record { stores = c.store_scalar.ensures.stores c.args.realloc; flows = c.store_scalar.ensures.flows c.args.realloc }
 
 pub store_type-store_id-requires : goal.store_type-store_id-requires
 unfolding type_below
@@ -83,7 +85,7 @@ store_type-returns-in-String g t c =
     let new = c.store_text.new.bindgen in
     record {
       stores = subst (λ (ty : WitType). OnOk c.store_text.result (LowersToMemory m c.args.realloc (shape_of types ty) c.args.value c.args.address.now c.args.offset c.args.bindgen.now new)) (sym c.in-String.is) c.store_text.ensures.stores;
-      sends = subst (λ (ty : WitType). OnOk c.store_text.result (Sends m types (store_code types c.args.realloc ty c.args.offset) c.args.bindgen.now new)) (sym c.in-String.is) c.store_text.ensures.sends;
+      flows = subst (λ (ty : WitType). OnOk c.store_text.result (Flows m types (store_code types c.args.realloc ty c.args.offset) (c.args.address.now ∷ c.args.value ∷ []) [] c.args.bindgen.now new)) (sym c.in-String.is) c.store_text.ensures.flows;
     }
 
 pub store_type-returns-in-Id : goal.store_type-returns-in-Id
@@ -93,7 +95,7 @@ store_type-returns-in-Id g t c =
     let new = c.store_id.new.bindgen in
     record {
       stores = subst (λ (ty : WitType). OnOk c.store_id.result (LowersToMemory m c.args.realloc (shape_of types ty) c.args.value c.args.address.now c.args.offset c.args.bindgen.now new)) (sym c.in-Id.is) c.store_id.ensures.stores;
-      sends = subst (λ (ty : WitType). OnOk c.store_id.result (Sends m types (store_code types c.args.realloc ty c.args.offset) c.args.bindgen.now new)) (sym c.in-Id.is) c.store_id.ensures.sends;
+      flows = subst (λ (ty : WitType). OnOk c.store_id.result (Flows m types (store_code types c.args.realloc ty c.args.offset) (c.args.address.now ∷ c.args.value ∷ []) [] c.args.bindgen.now new)) (sym c.in-Id.is) c.store_id.ensures.flows;
     }
 
 pub store_id-store_type-requires : goal.store_id-store_type-requires
@@ -204,7 +206,7 @@ store_id-returns-in-Alias g t c =
     let Stores : Shape → Type 0 = λ s. OnOk c.store_type.result (LowersToMemory m c.args.realloc s c.args.value c.args.address.now c.args.offset c.args.bindgen.now new) in
     record {
       stores = subst Stores (sym (alias_shape types c.requires.down c.args.id.0 d at c.in-Alias.ty is)) c.store_type.ensures.stores;
-      sends = subst (λ (code : List Sent). OnOk c.store_type.result (Sends m types code c.args.bindgen.now new)) (sym (store_alias_code types c.requires.down c.args.id d at c.args.offset c.args.realloc c.in-Alias.ty is)) c.store_type.ensures.sends;
+      flows = subst (λ (code : Flow). OnOk c.store_type.result (Flows m types code (c.args.address.now ∷ c.args.value ∷ []) [] c.args.bindgen.now new)) (sym (store_alias_code types c.requires.down c.args.id d at c.args.offset c.args.realloc c.in-Alias.ty is)) c.store_type.ensures.flows;
     }
 
 pub store_id-returns-in_ok-store_parts-in-Record : goal.store_id-returns-in_ok-store_parts-in-Record
@@ -218,11 +220,18 @@ store_id-returns-in_ok-store_parts-in-Record g t c =
     let same : c.as_slice-tys.result.now ≡ map (λ (f : Field). f.ty) members = c.as_slice-tys.ensures ∙ c.in_ok-tys-in-Record.ensures ∙ ap (map (λ (f : Field). f.ty)) c.as_slice.ensures in
     let later = stores_parts_as m g.met.B.Bindgen.sound types c.args.realloc _ _ _ _ c.in_ok-parts-in-Record.parts _ c.args.offset 0 same c.in_ok-store_parts-in-Record.ensures.stores in
     let all = record_stores m g.met.B.Bindgen.sound types c.args.realloc c.args.id members _ _ _ c.args.value _ c.in_ok-parts-in-Record.parts c.args.offset (record { entry = d; at = at; kind = is }) c.in_ok-parts-in-Record.ensures later in
-    let code : ℕ → WitType → List Sent = λ n ty. store_code types c.args.realloc ty (beyond c.args.offset (place_in (tree_at types c.args.id.0) n)) in
-    let parts = sends_as m types _ _ _ _ (ap (each code 0) (sym same)) c.in_ok-store_parts-in-Record.ensures.sends in
+    let code : ℕ → WitType → Flow = λ n ty. store_code types c.args.realloc ty (beyond c.args.offset (place_in (tree_at types c.args.id.0) n)) in
+    let address = c.args.address.now in
+    let value = c.args.value in
+    let split = c.in_ok-parts-in-Record.parts in
+    let all_code : Flow = each 1 (λ ty. 1) code 0 (map (λ (f : Field). f.ty) members) in
+    let parts = flows_as m types (each 1 (λ ty. 1) code 0 c.as_slice-tys.result.now) all_code (address ∷ split) [] _ _ (ap (each 1 (λ ty. 1) code 0) (sym same)) c.in_ok-store_parts-in-Record.ensures.flows in
+    let lowered = flows_behind_address m types (emit (RecordLower c.args.id)) address value split _ _ c.in_ok-parts-in-Record.ensures in
     record {
       stores = stores_as m g.met.B.Bindgen.sound types c.args.realloc _ _ _ _ c.args.value _ c.args.offset (record_shape types c.requires.down c.args.id.0 d at members is) all;
-      sends = sends_as m types _ _ _ _ (store_record_code types c.requires.down c.args.id d at c.args.offset c.args.realloc members is) (sends_then m types _ _ _ _ _ _ _ c.in_ok-parts-in-Record.ensures parts);
+      flows = flows_as m types (behind_address (emit (RecordLower c.args.id)) >>> all_code) (store_code types c.args.realloc (wit.Id c.args.id) c.args.offset) (address ∷ value ∷ []) [] _ _
+          (store_record_code types c.requires.down c.args.id d at c.args.offset c.args.realloc members is)
+          (flows_then m types (behind_address (emit (RecordLower c.args.id))) all_code (address ∷ value ∷ []) (address ∷ split) [] _ _ _ lowered parts);
     }
 
 pub store_id-returns-in_ok-store_parts-in-Tuple : goal.store_id-returns-in_ok-store_parts-in-Tuple
@@ -237,18 +246,25 @@ store_id-returns-in_ok-store_parts-in-Tuple g t c =
     let count = count-shapes types tys ∙ sym (c.part_count.ensures ∙ ap length c.as_slice-tys-in-Tuple.ensures) in
     let all = tuple_stores m g.met.B.Bindgen.sound types c.args.realloc c.part_count.result (shapes_of types tys) _ _ _ c.args.value _ c.in_ok-parts-in-Tuple.parts c.args.offset count c.in_ok-parts-in-Tuple.ensures later in
     let many : length tys ≡ c.part_count.result = sym (c.part_count.ensures ∙ ap length c.as_slice-tys-in-Tuple.ensures) in
-    let code : ℕ → WitType → List Sent = λ n ty. store_code types c.args.realloc ty (beyond c.args.offset (place_in (tree_at types c.args.id.0) n)) in
-    let parts = sends_as m types _ _ _ _ (ap (each code 0) (sym c.as_slice-tys-in-Tuple.ensures)) c.in_ok-store_parts-in-Tuple.ensures.sends in
-    let all_code = store_tuple_code types c.requires.down c.args.id d at c.args.offset c.args.realloc tys is ∙ ap (λ n. sends (TupleLower n) ∷ each code 0 tys) many in
+    let code : ℕ → WitType → Flow = λ n ty. store_code types c.args.realloc ty (beyond c.args.offset (place_in (tree_at types c.args.id.0) n)) in
+    let address = c.args.address.now in
+    let value = c.args.value in
+    let split = c.in_ok-parts-in-Tuple.parts in
+    let n = c.part_count.result in
+    let all_code : Flow = each 1 (λ ty. 1) code 0 tys in
+    let parts = flows_as m types (each 1 (λ ty. 1) code 0 c.as_slice-tys-in-Tuple.result.now) all_code (address ∷ split) [] _ _ (ap (each 1 (λ ty. 1) code 0) (sym c.as_slice-tys-in-Tuple.ensures)) c.in_ok-store_parts-in-Tuple.ensures.flows in
+    let whole = store_tuple_code types c.requires.down c.args.id d at c.args.offset c.args.realloc tys is ∙ ap (λ n. behind_address (emit (TupleLower n)) >>> all_code) many in
+    let lowered = flows_behind_address m types (emit (TupleLower n)) address value split _ _ c.in_ok-parts-in-Tuple.ensures in
     record {
       stores = stores_as m g.met.B.Bindgen.sound types c.args.realloc _ _ _ _ c.args.value _ c.args.offset (tuple_shape types c.requires.down c.args.id.0 d at tys is) all;
-      sends = sends_as m types _ _ _ _ all_code (sends_then m types _ _ _ _ _ _ _ c.in_ok-parts-in-Tuple.ensures parts);
+      flows = flows_as m types (behind_address (emit (TupleLower n)) >>> all_code) (store_code types c.args.realloc (wit.Id c.args.id) c.args.offset) (address ∷ value ∷ []) [] _ _ whole
+          (flows_then m types (behind_address (emit (TupleLower n))) all_code (address ∷ value ∷ []) (address ∷ split) [] _ _ _ lowered parts);
     }
 
 pub store_parts-loop-i-init : goal.store_parts-loop-i-init
 store_parts-loop-i-init g t c =
     let m = g.B.Bindgen.meaning in
-    record { adds = adds_same m _; sent = refl; rest = λ new h. h }
+    record { adds = adds_same m _; flows = λ new gives h. h; rest = λ new h. h }
 
 pub store_parts-store_type-requires : goal.store_parts-store_type-requires
 store_parts-store_type-requires g t c κs within =
@@ -286,12 +302,19 @@ store_parts-loop-i-preserved g t c =
     let found = c.part_place-place.ensures types c.requires.parts.0 knows c.requires.parts.1 (no_alias m.width types c.args.id.0 tys c.requires.parts) in
     let place = place_told m.width c.part_place-place.result c.args.offset found.0 (λ w. slice_index (field_offsets w tree) i) g.met.B.Bindgen.sound.wide found.1 found.2 in
     let here = ap (store_code types c.args.realloc (get_or tys i wit.Bool)) (sym (place_sent c.part_place-place.result c.args.offset found.0 tree i found.1 found.2)) in
+    let address = c.args.address.now in
+    let parts = c.args.parts.now in
+    let part = c.in_ok-part.part in
+    let code : ℕ → WitType → Flow = λ n ty. store_code types c.args.realloc ty (beyond c.args.offset (place_in tree n)) in
+    let unread : drop i parts ≡ part ∷ drop (i + 1) parts = drop-same parts c.as_slice.result.now i part c.index-as_slice-i.result c.as_slice.ensures enough c.index-as_slice-i.is c.in_ok-part.ensures in
+    let on = subst (λ os. FlowsOn m types 1 (λ ty. 1) code (address ∷ []) tys (address ∷ parts) c.args.bindgen.now i [] os c.loop-i.bindgen) unread c.loop-i.invariant.flows in
+    let flow = flows_as m types (store_code types c.args.realloc (get_or tys i wit.Bool) c.part_place-place.result) (code i (get_or tys i wit.Bool)) (address ∷ part ∷ []) [] c.loop-i.bindgen c.store_type.new.bindgen here c.in_ok-store_type.ensures.flows in
     record {
       adds = adds_both m _ _ _ c.loop-i.invariant.adds c.in_ok-store_type.ensures.stores.adds;
-      sent = sends_next m types (λ n ty. store_code types c.args.realloc ty (beyond c.args.offset (place_in tree n))) tys i wit.Bool _ _ _ short c.loop-i.invariant.sent (sends_as m types _ _ _ _ here c.in_ok-store_type.ensures.sends);
+      flows = flows_next m types 1 (λ ty. 1) code (address ∷ []) tys (address ∷ parts) c.args.bindgen.now i wit.Bool (part ∷ []) (drop (i + 1) parts) [] [] [] c.loop-i.bindgen c.store_type.new.bindgen short refl refl refl flow on;
       rest = rest_next m g.met.B.Bindgen.sound types c.args.realloc tys c.args.parts.now _ c.args.offset c.part_place-place.result i _ _ _ (get_or tys i wit.Bool) c.in_ok-part.part
           (drop_more tys i wit.Bool short)
-          (drop-same c.args.parts.now c.as_slice.result.now i c.in_ok-part.part c.index-as_slice-i.result c.as_slice.ensures enough c.index-as_slice-i.is c.in_ok-part.ensures)
+          unread
           (behind_next m.width types tys i wit.Bool short)
           (place ∙ ap (λ n. bytes_at c.args.offset (2 ^ m.width) + n) (part_offset m.width types c.args.id tys i wit.Bool c.requires.down c.requires.parts short))
           c.in_ok-store_type.ensures.stores c.loop-i.invariant.rest;
@@ -303,10 +326,10 @@ store_parts-returns g t c =
     let ended : length c.args.tys.now ≤ c.loop-i.i = omega (arith, c.loop-i-test.false) in
     let done : length c.args.parts.now ≤ c.loop-i.i = omega (arith, ended, c.requires.enough) in
     let types = c.args.resolve.now.types in
-    let code : ℕ → WitType → List Sent = λ n ty. store_code types c.args.realloc ty (beyond c.args.offset (place_in (tree_at types c.args.id.0) n)) in
+    let code : ℕ → WitType → Flow = λ n ty. store_code types c.args.realloc ty (beyond c.args.offset (place_in (tree_at types c.args.id.0) n)) in
     record {
       stores = rest_last m g.met.B.Bindgen.sound types c.args.realloc c.args.tys.now c.args.parts.now _ c.args.offset c.loop-i.i _ _ ended done c.loop-i.invariant.rest;
-      sends = sends_last m types code c.args.tys.now c.loop-i.i _ _ ended c.loop-i.invariant.sent;
+      flows = flows_last m types 1 (λ ty. 1) code (c.args.address.now ∷ []) c.args.tys.now (c.args.address.now ∷ c.args.parts.now) c.args.bindgen.now c.loop-i.i [] (drop c.loop-i.i c.args.parts.now) _ ended c.loop-i.invariant.flows;
     }
 
 pub store_id-store_variant-requires : goal.store_id-store_variant-requires
@@ -397,12 +420,12 @@ store_variant-returns g t c =
     let e = subst (λ (i : Instruction). Emits m types i (c.args.value ∷ []) c.in_ok-_none._none c.store_cases.new.bindgen c.lower_by.new.bindgen) c.case_lowering-lower.ensures c.in_ok-_none.ensures in
     let found = c.payload_place-place.ensures types d c.requires.knows at (ap is_alias kind_is ∙ cases_no_alias m.width types k has) in
     stored_variant m sound types c.requires.down c.args.id d at k has kind_is c.args.realloc c.args.value c.args.address.now c.args.offset c.payload_place-place.result found c.as_slice-tys.result.now (c.as_slice-tys.ensures ∙ c.in_ok-payloads.ensures)
-    c.in_ok-_none._none _ _ _ c.in_ok-store_cases.ensures.stores c.in_ok-store_cases.ensures.sends e
+    c.in_ok-_none._none _ _ _ c.in_ok-store_cases.ensures.stores (c.in_ok-store_cases.ensures.flows (c.args.value ∷ [])) e
 
 pub store_cases-loop-i-init : goal.store_cases-loop-i-init
 store_cases-loop-i-init g t c =
     let m = g.B.Bindgen.meaning in
-    record { resumes = resumes_same m _; sent = refl; rest = λ new h. h }
+    record { resumes = resumes_same m _; flows = λ others new gives h. h; rest = λ new h. h }
 
 pub store_cases-store_case-requires : goal.store_cases-store_case-requires
 store_cases-store_case-requires g t c κs within =
@@ -425,10 +448,11 @@ store_cases-loop-i-preserved g t c =
     let i = c.loop-i.i in
     let short : i < length ps = omega (arith, c.loop-i-test.true) in
     let one = c.in_ok-store_case.ensures in
-    let code : ℕ → Option WitType → List Sent = λ n p. opens ∷ store_case (length ps) c.args.offset c.args.place n (option_map (store_code types c.args.realloc) p) ++ closes ∷ [] in
+    let code : ℕ → Option WitType → Flow = λ n p. in_block (store_case (length ps) c.args.offset c.args.place n (option_map (λ ty. (ty, store_code types c.args.realloc ty)) p)) in
+    let address = c.args.address.now in
     record {
       resumes = resumes_both m _ _ _ c.loop-i.invariant.resumes one.stores.adds.resumes;
-      sent = sends_next m types code ps i None _ _ _ short c.loop-i.invariant.sent one.sends;
+      flows = λ others. flows_next m types 1 (λ payload. 0) code (address ∷ []) ps (address ∷ others) c.args.bindgen.now i None [] others [] [] [] c.loop-i.bindgen c.store_case.new.bindgen short refl refl refl one.flows (c.loop-i.invariant.flows others);
       rest = next_case m g.met.B.Bindgen.sound types c.args.realloc (discriminant_grain (length ps)) ps c.args.address.now c.args.offset c.args.place i _ _ _ (get_or ps i None) (drop_more ps i None short) one.stores c.loop-i.invariant.rest;
     }
 
@@ -438,21 +462,22 @@ store_cases-returns g t c =
     let types = c.args.resolve.now.types in
     let ps = c.args.payloads.now in
     let ended : length ps ≤ c.loop-i.i = omega (arith, c.loop-i-test.false) in
-    let code : ℕ → Option WitType → List Sent = λ n p. opens ∷ store_case (length ps) c.args.offset c.args.place n (option_map (store_code types c.args.realloc) p) ++ closes ∷ [] in
+    let code : ℕ → Option WitType → Flow = λ n p. in_block (store_case (length ps) c.args.offset c.args.place n (option_map (λ ty. (ty, store_code types c.args.realloc ty)) p)) in
+    let address = c.args.address.now in
     record {
       stores = last_case m g.met.B.Bindgen.sound types c.args.realloc (discriminant_grain (length ps)) ps c.args.address.now c.args.offset c.args.place c.loop-i.i _ _ ended c.loop-i.invariant.rest;
-      sends = sends_last m types code ps c.loop-i.i _ _ ended c.loop-i.invariant.sent;
+      flows = λ others. flows_last m types 1 (λ payload. 0) code (address ∷ []) ps (address ∷ others) c.args.bindgen.now c.loop-i.i [] others _ ended (c.loop-i.invariant.flows others);
     }
 
 pub store_case-returns-in_ok-store_bare-in-None : goal.store_case-returns-in_ok-store_bare-in-None
 store_case-returns-in_ok-store_bare-in-None g t c =
     let m = g.B.Bindgen.meaning in
     let types = c.args.resolve.now.types in
-    let code : Option WitType → List Sent = λ p. opens ∷ store_case c.args.count c.args.offset c.args.place c.args.number (option_map (store_code types c.args.realloc) p) ++ closes ∷ [] in
+    let code : Option WitType → Flow = λ p. in_block (store_case c.args.count c.args.offset c.args.place c.args.number (option_map (λ ty. (ty, store_code types c.args.realloc ty)) p)) in
     let Stored : Option WitType → Type 0 = λ p. StoresCase m c.args.realloc (discriminant_grain c.args.count) c.args.number (payload_in (shapes types) p) c.args.address.now c.args.offset c.args.place c.args.bindgen.now c.store_bare.new.bindgen in
     record {
       stores = subst Stored (sym c.in-None.is) (c.in_ok-store_bare-in-None.ensures.stores c.args.realloc c.args.place);
-      sends = subst (λ (p : Option WitType). Sends m types (code p) c.args.bindgen.now c.store_bare.new.bindgen) (sym c.in-None.is) (c.in_ok-store_bare-in-None.ensures.sends c.args.place);
+      flows = subst (λ (p : Option WitType). Flows m types (code p) (c.args.address.now ∷ []) [] c.args.bindgen.now c.store_bare.new.bindgen) (sym c.in-None.is) (c.in_ok-store_bare-in-None.ensures.flows c.args.place);
     }
 
 pub store_case-store_payload-requires : goal.store_case-store_payload-requires
@@ -468,11 +493,11 @@ pub store_case-returns-in_ok-store_payload-in-Some : goal.store_case-returns-in_
 store_case-returns-in_ok-store_payload-in-Some g t c =
     let m = g.B.Bindgen.meaning in
     let types = c.args.resolve.now.types in
-    let code : Option WitType → List Sent = λ p. opens ∷ store_case c.args.count c.args.offset c.args.place c.args.number (option_map (store_code types c.args.realloc) p) ++ closes ∷ [] in
+    let code : Option WitType → Flow = λ p. in_block (store_case c.args.count c.args.offset c.args.place c.args.number (option_map (λ ty. (ty, store_code types c.args.realloc ty)) p)) in
     let Stored : Option WitType → Type 0 = λ p. StoresCase m c.args.realloc (discriminant_grain c.args.count) c.args.number (payload_in (shapes types) p) c.args.address.now c.args.offset c.args.place c.args.bindgen.now c.store_payload.new.bindgen in
     record {
       stores = subst Stored (sym c.in-Some.is) c.in_ok-store_payload-in-Some.ensures.stores;
-      sends = subst (λ (p : Option WitType). Sends m types (code p) c.args.bindgen.now c.store_payload.new.bindgen) (sym c.in-Some.is) c.in_ok-store_payload-in-Some.ensures.sends;
+      flows = subst (λ (p : Option WitType). Flows m types (code p) (c.args.address.now ∷ []) [] c.args.bindgen.now c.store_payload.new.bindgen) (sym c.in-Some.is) c.in_ok-store_payload-in-Some.ensures.flows;
     }
 
 pub store_payload-payload-requires : goal.store_payload-payload-requires
@@ -521,12 +546,21 @@ store_payload-returns g t c =
     let closes = c.in_ok-close.ensures in
     let low : n < 2 ^ 31 = omega (arith, c.requires.few, c.requires.most) in
     let some = payload_some c.args.resolve.now c.requires.well c.args.ty (type_below_table c.args.id.0 (length types) c.args.ty c.requires.below c.requires.within) in
-    let code = store_code types c.args.realloc c.args.ty c.args.place in
+    let part_code : WitType × (ArchitectureSize → Flow) = (c.args.ty, store_code types c.args.realloc c.args.ty) in
+    let address = c.args.address.now in
+    let value = c.in_ok-value.value in
+    let begun = c.push_block.new.self in
+    let named = c.payload.new.bindgen in
+    let tagged = c.store_tag.new.bindgen in
     let end = c.store_type.new.bindgen in
-    let tagged = sends_then m types (tag_store count c.args.offset) _ _ code _ _ end tag.3 part.sends in
-    let numbered = sends_then m types (I32Const (pos n)) _ _ (sends (tag_store count c.args.offset) ∷ code) _ _ end tag.2 tagged in
-    let steps = sends_then m types VariantPayloadName _ _ (sends (I32Const (pos n)) ∷ sends (tag_store count c.args.offset) ∷ code) _ _ end name numbered in
+    let names : Flow = both (leading 1) (alone (emit VariantPayloadName)) in
+    let put : Flow = both (store_number n (tag_store count c.args.offset)) (store_code types c.args.realloc c.args.ty c.args.place) in
+    let reads = address ∷ value ∷ [] in
+    let inside = flows_then m types names put (address ∷ []) reads [] begun named end
+    (flows_both m types (leading 1) (alone (emit VariantPayloadName)) (address ∷ []) (address ∷ []) (value ∷ []) begun begun named (refl, refl) (flows_alone m types (emit VariantPayloadName) (address ∷ []) (value ∷ []) begun named name))
+    (flows_both m types (store_number n (tag_store count c.args.offset)) (store_code types c.args.realloc c.args.ty c.args.place) reads [] [] named tagged end
+    (flows_numbered m types n (tag_store count c.args.offset) address (value ∷ []) tag.1 named tag.0 tagged tag.2 tag.3) part.flows) in
     record {
       stores = payload_case m sound types c.args.realloc (discriminant_grain count) n (tag_grain_small count) low (tag_kept count n c.requires.few c.requires.most) c.args.address.now tag.1 c.args.offset c.args.place (shape_of types c.args.ty) some _ _ _ _ _ _ _ c.in_ok-value.value opens name tag.2 tag.3 part.stores closes;
-      sends = sends_block m types (sends VariantPayloadName ∷ sends (I32Const (pos n)) ∷ sends (tag_store count c.args.offset) ∷ code) [] _ _ _ _ opens steps closes;
+      flows = flows_block m types (store_case count c.args.offset c.args.place n (Some part_code)) (address ∷ []) [] c.args.bindgen.now begun end c.close.new.bindgen opens inside closes;
     }

@@ -1,13 +1,14 @@
-use Rattle.std.proofs.Common.{◌+◌, ◌*◌, length, option_map, take}
+use Rattle.std.proofs.Common.{◌+◌, ◌*◌, length, option_map, List, drop, [], ◌∷◌}
 use Rattle.wit_layout.proofs.FlattenSteps.{rank}
 use Rattle.wit_layout.specs.Extent.{discriminant_grain}
 use Rattle.wit_layout.specs.Tree.{tree_at}
-use Rattle.abi_bindgen.specs.Code.{beyond, each, in_blocks, place_in, store_case, store_code}
+use Rattle.abi_bindgen.specs.Code.{beyond, place_in, store_case, store_code}
 use Rattle.abi_driver.specs.FinishedBlocks.{Resumes}
 use Rattle.abi_bindgen.specs.Laws.{Adds}
-use Rattle.abi_bindgen.specs.Sends.{Sends}
+use Rattle.abi_bindgen.specs.Flow.{in_block}
 use Rattle.abi_driver.proofs.CaseStores.{Rest as RestCases}
 use Rattle.abi_driver.proofs.StoreSteps.{Rest}
+use Rattle.abi_bindgen.proofs.FlowSteps.{FlowsOn}
 use Rattle.abi_driver.proofs.memory.store.+store.Given as goal
 
 abbrev pub decreases-store_type : goal.decreases-store_type
@@ -31,23 +32,23 @@ decreases-store_payload g l = 8 * l.id.0 + 3
 abbrev pub decreases-store_case : goal.decreases-store_case
 decreases-store_case g l = 8 * l.id.0 + 4
 
--- what stores the parts that are left, stores them all; and what was sent is the code of the parts so far
+-- what stores the parts that are left, stores them all; and what flows for them, flows for all
 abbrev pub invariant-store_parts-loop-i : goal.invariant-store_parts-loop-i
 invariant-store_parts-loop-i g l =
     let m = g.B.Bindgen.meaning in
     record {
       adds : Adds m l.initial.bindgen l.bindgen;
-      sent : Sends m l.resolve.types (each (λ n ty. store_code l.resolve.types l.realloc ty (beyond l.offset (place_in (tree_at l.resolve.types l.id.0) n))) 0 (take l.i l.tys)) l.initial.bindgen l.bindgen;
+      flows : FlowsOn m l.resolve.types 1 (λ ty. 1) (λ n ty. store_code l.resolve.types l.realloc ty (beyond l.offset (place_in (tree_at l.resolve.types l.id.0) n))) (l.address ∷ []) l.tys (l.address ∷ l.parts) l.initial.bindgen l.i [] (drop l.i l.parts) l.bindgen;
       rest : Rest m l.resolve.types l.realloc l.tys l.parts l.address l.offset l.i l.initial.bindgen l.bindgen;
     }
 
--- what stores the cases that are left, stores them all; and what was sent is the code of the cases so far
+-- what stores the cases that are left, stores them all; and what flows for them, flows for all
 abbrev pub invariant-store_cases-loop-i : goal.invariant-store_cases-loop-i
 invariant-store_cases-loop-i g l =
     let m = g.B.Bindgen.meaning in
     let types = l.resolve.types in
     record {
       resumes : Resumes m l.initial.bindgen l.bindgen;
-      sent : Sends m types (in_blocks (λ n p. store_case (length l.payloads) l.offset l.place n (option_map (store_code types l.realloc) p)) 0 (take l.i l.payloads)) l.initial.bindgen l.bindgen;
+      flows : (others : List g.row.B-Operand.Denot) → FlowsOn m types 1 (λ payload. 0) (λ n payload. in_block (store_case (length l.payloads) l.offset l.place n (option_map (λ ty. (ty, store_code types l.realloc ty)) payload))) (l.address ∷ []) l.payloads (l.address ∷ others) l.initial.bindgen l.i [] others l.bindgen;
       rest : RestCases m types l.realloc (discriminant_grain (length l.payloads)) l.payloads l.address l.offset l.place l.i l.initial.bindgen l.bindgen;
     }

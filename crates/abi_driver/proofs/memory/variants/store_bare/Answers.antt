@@ -1,11 +1,11 @@
-use Rattle.std.proofs.Common.{◌<◌, ◌^◌, pos, [], ◌∷◌, arith}
+use Rattle.std.proofs.Common.{◌<◌, ◌^◌, [], ◌∷◌, arith, None}
 use Rattle.wit_layout.specs.Extent.{discriminant_grain}
 use Rattle.abi_bindgen.specs.NumberTouches.{tag_store}
-use Rattle.abi_bindgen.specs.Sent.{sends}
-use Rattle.abi_bindgen.specs.declared.instruction.Instruction.TheVariants.{I32Const}
+use Rattle.abi_bindgen.specs.Code.{store_case}
 use Rattle.abi_driver.proofs.Tags.{tag_grain_small, tag_kept}
 use Rattle.abi_driver.proofs.CaseStores.{bare_case}
-use Rattle.abi_bindgen.proofs.SendSteps.{sends_block, sends_two}
+use Rattle.abi_bindgen.proofs.FlowSteps.{flows_block}
+use Rattle.abi_driver.proofs.FlowStores.{flows_numbered}
 use Rattle.abi_driver.proofs.memory.variants.store_bare.Goals as goal
 
 pub returns : goal.returns
@@ -19,8 +19,8 @@ returns g c =
     let tag = c.in_ok-store_tag.ensures in
     let opens = c.in_ok-push_block.ensures in
     let closes = c.in_ok-close.ensures in
-    let steps = sends_two m types (I32Const (pos n)) (tag_store cases c.args.offset) _ _ _ _ _ _ _ tag.2 tag.3 in
     record {
       stores = λ realloc place. bare_case m sound types realloc (discriminant_grain cases) n (tag_grain_small cases) low (tag_kept cases n c.requires.below c.requires.most) c.args.address.now tag.1 c.args.offset place _ _ _ _ _ opens tag.2 tag.3 closes;
-      sends = λ place. sends_block m types (sends (I32Const (pos n)) ∷ sends (tag_store cases c.args.offset) ∷ []) [] _ _ _ _ opens steps closes;
+      flows = λ place. flows_block m types (store_case cases c.args.offset place n None) (c.args.address.now ∷ []) [] _ _ _ _ opens
+          (flows_numbered m types n (tag_store cases c.args.offset) c.args.address.now [] tag.1 _ _ _ tag.2 tag.3) closes;
     }

@@ -1,4 +1,4 @@
-use Rattle.std.proofs.Common.{false}
+use Rattle.std.proofs.Common.{false, []}
 use Rattle.wrapper_closing.proofs.ExportDeclares.{export_closed}
 use Rattle.wrapper_closing.proofs.Returned.{export_few}
 use Rattle.wrapper_closing.proofs.StepsDeclare.{none_open}
@@ -10,10 +10,10 @@ call-requires-clause-fresh c = let begins = c.in_ok-bindgen.ensures.begins in re
 
 pub finish-body-requires-clause-closed : goal.finish-body-requires-clause-closed
 finish-body-requires-clause-closed c =
-    export_closed c.args.resolve.now.types c.args.func c.in_ok-bindgen.bindgen c.call.new.bindgen c.in_ok-call.ensures.sends (none_open c.in_ok-bindgen.bindgen c.in_ok-bindgen.ensures.begins.closed)
+    export_closed c.args.resolve.now.types c.args.func [] c.in_ok-bindgen.bindgen c.call.new.bindgen c.in_ok-call.ensures.flows (none_open c.in_ok-bindgen.bindgen c.in_ok-bindgen.ensures.begins.closed)
 
 pub finish-body-requires-clause-few : goal.finish-body-requires-clause-few
-finish-body-requires-clause-few c = export_few c.args.resolve.now.types c.args.func c.in_ok-bindgen.bindgen c.call.new.bindgen c.in_ok-call.ensures.sends
+finish-body-requires-clause-few c = export_few c.args.resolve.now.types c.args.func [] c.in_ok-bindgen.bindgen c.call.new.bindgen c.in_ok-call.ensures.flows
 
 pub call-requires-clause-writes : goal.call-requires-clause-writes
 call-requires-clause-writes c = made_writes c.args.resolve.now.types c.args.func.now false c.args.parts c.in_ok-bindgen.bindgen c.in_ok-bindgen.ensures.made c.requires.writes
