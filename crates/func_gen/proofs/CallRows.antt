@@ -300,7 +300,7 @@ statement_becomes types f os old new many adds none = record {
   answer = None;
   answers = sym none;
   many = many;
-  writes = written old new [] (calls_core old f (import_params types f) None (exprs os)) adds.number adds.takes
+  writes = written old new [] (calls_core old.home f (import_params types f) None (exprs os)) adds.number adds.takes
       (subst (λ n. Appends old new (stmt.Import (import_of old.home f (import_params types f) None n) ∷ stmt.Expr (expr.Call (local_path n) (exprs os)) ∷ []) []) adds.is adds.stmts) refl;
 }
 
@@ -313,7 +313,7 @@ call_becomes types f ty os ret old new many adds one =
       answer = Some ty;
       answers = sym one;
       many = many;
-      writes = written old new (operand_of (expr.Local ret) ∷ []) (calls_core old f (import_params types f) (Some ty) (exprs os)) adds.number adds.takes
+      writes = written old new (operand_of (expr.Local ret) ∷ []) (calls_core old.home f (import_params types f) (Some ty) (exprs os)) adds.number adds.takes
           (subst (λ m. Appends old new (stmts (import_name adds.number) m) []) adds.answers named) (ap (λ m. operand_of (expr.Local m) ∷ []) adds.answers);
     }
 

@@ -28,7 +28,7 @@ use Rattle.abi_bindgen.specs.Sent.{sends}
 use Rattle.func_gen.specs.declared.enum_site.EnumSite.{EnumSite}
 use Rattle.func_gen.specs.declared.flags_site.FlagsSite.{FlagsSite}
 use Rattle.func_gen.specs.declared.function_bindgen.FunctionBindgen.{FunctionBindgen}
-use Rattle.func_gen.specs.CodeOf.{emitted}
+use Rattle.func_gen.specs.CodeOf.{context, emitted}
 use Rattle.func_gen.specs.Emission.{Emission}
 use Rattle.func_gen.specs.EnumForms.{enum_at, lift_path, lifts_enum}
 use Rattle.func_gen.specs.FlagsForms.{flags_at, lifts_flags, lowers_flags}
@@ -94,7 +94,7 @@ abbrev printed : Emission → List Bytes × List Bytes
 printed e = (map stmt_text e.stmts, map expr_text e.results)
 
 abbrev shown : FunctionBindgen → Instruction → List Expr → ℕ → Option (List Bytes × List Bytes)
-shown b i es t = option_map (λ (code : ℕ → Emission). printed (code t)) (emitted b (sends i) es)
+shown b i es t = option_map (λ (code : ℕ → Emission). printed (code t)) (emitted (context b) (sends i) es)
 
 abbrev a : Expr
 a = expr.Local (codes "a")

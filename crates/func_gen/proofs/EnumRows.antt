@@ -62,7 +62,7 @@ use Rattle.func_gen.specs.declared.function_bindgen.FunctionBindgen.{FunctionBin
 use Rattle.func_gen.specs.declared.type_site.TypeSite.{TypeSite}
 use Rattle.func_gen.specs.declared.type_site.TypeSite.TheVariants as site
 use Rattle.func_gen.specs.Added.{Appends, Fresh}
-use Rattle.func_gen.specs.CodeOf.{emitted}
+use Rattle.func_gen.specs.CodeOf.{context, emitted}
 use Rattle.func_gen.specs.EnumForms.{IsEnum, IsEnumSite, case_cast, case_let, case_lifted, enum_site_in, lift_path, lifts_enum}
 use Rattle.func_gen.specs.Emission.{one_local}
 use Rattle.func_gen.specs.Facts.{Hold}
@@ -285,7 +285,7 @@ module _ (types : List TypeDef) (old new : FunctionBindgen) (n : Bytes) (id : Ty
   pub case_row : Appends old new (stmt.Let n lifted ∷ []) [] → TakesOne old.scope (codes "v") n new.scope → Emits func_meaning types (EnumLift id) (operand_of e ∷ []) (operand_of (expr.Local n) ∷ []) old new
   case_row a one =
       let (members, is, many) = is_site.count in
-      let told : emitted old (sends (EnumLift id)) (e ∷ []) ≡ Some (one_local (codes "v") lifted []) =
+      let told : emitted (context old) (sends (EnumLift id)) (e ∷ []) ≡ Some (one_local (codes "v") lifted []) =
       ap (option_and_then (lifts_enum e)) is_site.at ∙ ap (option_and_then (λ name. option_map (case_let name e) (case_cast s.repr))) root ∙ ap (option_map (case_let name e)) casts in
       record {
         adds = let_adds old new n lifted [] a fresh (λ w. quiet_lifted w name to e typed ok);

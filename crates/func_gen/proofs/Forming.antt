@@ -20,7 +20,7 @@ use Rattle.func_gen.specs.declared.function_bindgen.FunctionBindgen.{FunctionBin
 use Rattle.func_gen.specs.declared.operand.ExprOperand.{ExprOperand}
 use Rattle.func_gen.specs.declared.scope.Scope.{Scope}
 use Rattle.func_gen.specs.Added.{Appends}
-use Rattle.func_gen.specs.CodeOf.{emitted}
+use Rattle.func_gen.specs.CodeOf.{context, emitted}
 use Rattle.func_gen.specs.Emission.{Emission, Writes, effect, one_local}
 use Rattle.func_gen.specs.Forms.{operand_of}
 use Rattle.func_gen.specs.PartForms.{exprs_of, locals_of}
@@ -88,7 +88,7 @@ locals_are (n ∷ names) = ap (λ os. operand_of (expr.Local n) ∷ os) (locals_
 pub still_of : (old new : FunctionBindgen) (added : List Stmt) (items : List RuntimeItem) → Appends old new added items → StillOf old new
 still_of old new added items a = record { import = a.import; home = a.home; area = a.area; params = a.params; sites = a.sites; sizes = a.sizes }
 
-exprs_operands : (es : List Expr) → exprs_of (map operand_of es) ≡ es
+pub exprs_operands : (es : List Expr) → exprs_of (map operand_of es) ≡ es
 exprs_operands [] = refl
 exprs_operands (e ∷ es) = ap (λ xs. e ∷ xs) (exprs_operands es)
 
@@ -102,7 +102,7 @@ written old new rs code t takes a same = written_as old new rs code t takes a (a
 
 -- whatever the table is
 module _ {types : List TypeDef} (step : Sent) (plain : IsPlain step) (os : List ExprOperand) (old new : FunctionBindgen) where
-  pub form_of : (rs : List ExprOperand) (code : ℕ → Emission) → emitted old step (exprs_of os) ≡ Some code → StillOf old new → Writes code rs old new → Formed types step os rs old new
+  pub form_of : (rs : List ExprOperand) (code : ℕ → Emission) → emitted (context old) step (exprs_of os) ≡ Some code → StillOf old new → Writes code rs old new → Formed types step os rs old new
   form_of rs code is still writes = record {
     still = still;
     given = subst (λ o. IfSome o (λ n. length os ≡ n)) (sym plain.gives) tt;
@@ -110,26 +110,26 @@ module _ {types : List TypeDef} (step : Sent) (plain : IsPlain step) (os : List 
   }
 
   -- names are declared
-  pub form_as : (rs : List ExprOperand) (code : ℕ → Emission) (t : ℕ) → emitted old step (exprs_of os) ≡ Some code → Takes old.scope (λ k. (code k).names) t new.scope → Appends old new (code t).stmts (code t).items
+  pub form_as : (rs : List ExprOperand) (code : ℕ → Emission) (t : ℕ) → emitted (context old) step (exprs_of os) ≡ Some code → Takes old.scope (λ k. (code k).names) t new.scope → Appends old new (code t).stmts (code t).items
       → exprs_of rs ≡ (code t).results → Formed types step os rs old new
   form_as rs code t is takes a same = form_of rs code is (still_of old new (code t).stmts (code t).items a) (written_as old new rs code t takes a same)
 
-  pub form_by : (rs : List ExprOperand) (code : ℕ → Emission) (t : ℕ) → emitted old step (exprs_of os) ≡ Some code → Takes old.scope (λ k. (code k).names) t new.scope → Appends old new (code t).stmts (code t).items
+  pub form_by : (rs : List ExprOperand) (code : ℕ → Emission) (t : ℕ) → emitted (context old) step (exprs_of os) ≡ Some code → Takes old.scope (λ k. (code k).names) t new.scope → Appends old new (code t).stmts (code t).items
       → rs ≡ map operand_of (code t).results → Formed types step os rs old new
   form_by rs code t is takes a same = form_of rs code is (still_of old new (code t).stmts (code t).items a) (written old new rs code t takes a same)
 
   -- no name is
-  pub form_one : (o : ExprOperand) (items : List RuntimeItem) → emitted old step (exprs_of os) ≡ Some (λ t. record { names = []; stmts = []; results = o.expr ∷ []; items = items }) → new.scope ≡ old.scope → Appends old new [] items → Formed types step os (o ∷ []) old new
+  pub form_one : (o : ExprOperand) (items : List RuntimeItem) → emitted (context old) step (exprs_of os) ≡ Some (λ t. record { names = []; stmts = []; results = o.expr ∷ []; items = items }) → new.scope ≡ old.scope → Appends old new [] items → Formed types step os (o ∷ []) old new
   form_one o items is scope a = form_as (o ∷ []) (λ t. record { names = []; stmts = []; results = o.expr ∷ []; items = items }) old.scope.next is (takes_none old.scope new.scope scope) a refl
 
-  pub form_alone : (e : Expr) (items : List RuntimeItem) → emitted old step (exprs_of os) ≡ Some (λ t. record { names = []; stmts = []; results = e ∷ []; items = items }) → new.scope ≡ old.scope → Appends old new [] items → Formed types step os (operand_of e ∷ []) old new
+  pub form_alone : (e : Expr) (items : List RuntimeItem) → emitted (context old) step (exprs_of os) ≡ Some (λ t. record { names = []; stmts = []; results = e ∷ []; items = items }) → new.scope ≡ old.scope → Appends old new [] items → Formed types step os (operand_of e ∷ []) old new
   form_alone e items is scope a = form_one (operand_of e) items is scope a
 
-  pub form_effect : (s : Stmt) (items : List RuntimeItem) → emitted old step (exprs_of os) ≡ Some (λ t. effect s items) → new.scope ≡ old.scope → Appends old new (s ∷ []) items → Formed types step os [] old new
+  pub form_effect : (s : Stmt) (items : List RuntimeItem) → emitted (context old) step (exprs_of os) ≡ Some (λ t. effect s items) → new.scope ≡ old.scope → Appends old new (s ∷ []) items → Formed types step os [] old new
   form_effect s items is scope a = form_by [] (λ t. effect s items) old.scope.next is (takes_none old.scope new.scope scope) a refl
 
   -- a local is
-  pub form_let : (prefix n : Bytes) (e : Expr) (items : List RuntimeItem) → emitted old step (exprs_of os) ≡ Some (one_local prefix e items) → TakesOne old.scope prefix n new.scope → Appends old new (stmt.Let n e ∷ []) items
+  pub form_let : (prefix n : Bytes) (e : Expr) (items : List RuntimeItem) → emitted (context old) step (exprs_of os) ≡ Some (one_local prefix e items) → TakesOne old.scope prefix n new.scope → Appends old new (stmt.Let n e ∷ []) items
       → Formed types step os (operand_of (expr.Local n) ∷ []) old new
   form_let prefix n e items is one a =
       form_by (operand_of (expr.Local n) ∷ []) (one_local prefix e items) one.number is one.takes (subst (λ x. Appends old new (stmt.Let x e ∷ []) items) one.is a) (ap (λ x. operand_of (expr.Local x) ∷ []) one.is)

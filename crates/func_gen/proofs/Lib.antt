@@ -83,6 +83,11 @@ pub mod RecordInstances
 pub mod RecordRows
 pub mod Rows
 pub mod RuntimeItems
+pub mod SameCases
+pub mod SameCode
+pub mod SameForms
+pub mod SameLists
+pub mod SameNames
 pub mod ScalarRows
 pub mod Scalars
 pub mod Several

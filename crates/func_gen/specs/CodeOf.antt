@@ -1,5 +1,5 @@
 -- What each step becomes.
-use Rattle.std.specs.Prelude.{ℕ, true, false, List, [], ◌∷◌, codes, zip, Option, None, Some, option_and_then, option_map, slice_get}
+use Rattle.std.specs.Prelude.{ℕ, Bool, true, false, List, [], ◌∷◌, codes, zip, Option, None, Some, option_and_then, option_map, slice_get}
 use Rattle.wit_model.specs.Bytes.{Bytes}
 use Rattle.wit_model.specs.declared.function.Function.{Function}
 use Rattle.wit_model.specs.declared.wasm_type.WasmType.{WasmType}
@@ -15,9 +15,11 @@ use Rattle.abi_bindgen.specs.declared.instruction.Instruction.TheVariants.{Bitca
 use Rattle.abi_bindgen.specs.Meaning.{Name, the_base, the_element, the_key, the_payload, the_value}
 use Rattle.abi_bindgen.specs.Sent.{Sent, asks, sends}
 use Rattle.func_gen.specs.declared.function_bindgen.FunctionBindgen.{FunctionBindgen}
+use Rattle.func_gen.specs.declared.function_bindgen.OpenBlock.{OpenBlock}
 use Rattle.func_gen.specs.declared.function_bindgen.ParamSite.{ParamSite}
 use Rattle.func_gen.specs.declared.record_site.RecordSite.{RecordSite}
-use Rattle.func_gen.specs.Area.{area_pointer}
+use Rattle.func_gen.specs.declared.type_site.TypeSite.{TypeSite}
+use Rattle.func_gen.specs.Area.{pointer_to}
 use Rattle.func_gen.specs.CallForms.{import_name, import_of, local_path, ret_name}
 use Rattle.func_gen.specs.CastForms.{casts, zeros}
 use Rattle.func_gen.specs.Emission.{Emission, one_local, converted, all_locals, effect, alone, nothing}
@@ -64,28 +66,39 @@ abbrev pub makes_record : List Expr → RecordSite → ℕ → Emission
 makes_record es site t = one_local (codes "record") (expr.Record site.lifted (zip site.fields es)) [] t
 
 -- the names of the core import, and of what it answers
-abbrev pub calls_core : FunctionBindgen → Function → List WasmType → Option WasmType → List Expr → ℕ → Emission
-calls_core b f params None es t = record {
+abbrev pub calls_core : (home : Bytes) → Function → List WasmType → Option WasmType → List Expr → ℕ → Emission
+calls_core home f params None es t = record {
   names = import_name t ∷ [];
-  stmts = stmt.Import (import_of b.home f params None (import_name t)) ∷ stmt.Expr (expr.Call (local_path (import_name t)) es) ∷ [];
+  stmts = stmt.Import (import_of home f params None (import_name t)) ∷ stmt.Expr (expr.Call (local_path (import_name t)) es) ∷ [];
   results = [];
   items = [];
 }
-calls_core b f params (Some ty) es t = record {
+calls_core home f params (Some ty) es t = record {
   names = import_name t ∷ ret_name t ∷ [];
-  stmts = stmt.Import (import_of b.home f params (Some ty) (import_name t)) ∷ stmt.Let (ret_name t) (expr.Call (local_path (import_name t)) es) ∷ [];
+  stmts = stmt.Import (import_of home f params (Some ty) (import_name t)) ∷ stmt.Let (ret_name t) (expr.Call (local_path (import_name t)) es) ∷ [];
   results = expr.Local (ret_name t) ∷ [];
   items = [];
 }
 
 -- the local of a name of the innermost open block
-abbrev pub names_local : FunctionBindgen → Name → Option (ℕ → Emission)
-names_local b name = option_map (λ (k : ℕ). λ t. alone (expr.Local (slot_name name k))) (innermost b.opened)
+abbrev pub names_local : List OpenBlock → Name → Option (ℕ → Emission)
+names_local opened name = option_map (λ (k : ℕ). λ t. alone (expr.Local (slot_name name k))) (innermost opened)
 
 -- 2. Each step, by the expressions of its operands. Of calls there is none here: the core words of one are those of the table's types
 
-abbrev pub emitted : FunctionBindgen → Sent → List Expr → Option (ℕ → Emission)
-emitted b (asks room) [] = Some (one_local (codes "ptr") (area_pointer b) [])
+-- what its code depends on besides
+pub record Context : Type 0 where
+  pub import : Bool
+  pub area : Bytes
+  pub params : List ParamSite
+  pub sites : List (Option TypeSite)
+  pub opened : List OpenBlock
+
+abbrev pub context : FunctionBindgen → Context
+context b = record { import = b.import; area = b.area; params = b.params; sites = b.sites; opened = b.opened }
+
+abbrev pub emitted : Context → Sent → List Expr → Option (ℕ → Emission)
+emitted b (asks room) [] = Some (one_local (codes "ptr") (pointer_to b.import b.area) [])
 emitted b (sends (GetArg n)) [] = option_map (λ (p : ParamSite). λ t. alone p.operand.expr) (slice_get b.params n)
 emitted b (sends (I32Const n)) [] = Some (λ t. alone (expr.I32Const n))
 emitted b (sends (ConstZero types)) [] = Some (zeros types.now)
@@ -147,9 +160,9 @@ emitted b (sends (PointerStore o)) (a ∷ at ∷ []) = Some (λ t. effect (stmt.
 emitted b (sends (LengthStore o)) (a ∷ at ∷ []) = Some (λ t. effect (stmt.Store at o wasm.Length a) [])
 emitted b (sends (GuestDeallocate size align)) (a ∷ []) = Some (λ t. effect (stmt.Expr (block_freed a size align)) (CabiDealloc ∷ []))
 emitted b (sends GuestDeallocateString) (a ∷ n ∷ []) = Some (λ t. effect (stmt.Expr (text_freed a n)) (CabiDealloc ∷ []))
-emitted b (sends VariantPayloadName) [] = names_local b the_payload
-emitted b (sends IterElem) [] = names_local b the_element
-emitted b (sends IterMapKey) [] = names_local b the_key
-emitted b (sends IterMapValue) [] = names_local b the_value
-emitted b (sends IterBasePointer) [] = names_local b the_base
+emitted b (sends VariantPayloadName) [] = names_local b.opened the_payload
+emitted b (sends IterElem) [] = names_local b.opened the_element
+emitted b (sends IterMapKey) [] = names_local b.opened the_key
+emitted b (sends IterMapValue) [] = names_local b.opened the_value
+emitted b (sends IterBasePointer) [] = names_local b.opened the_base
 emitted b _ es = None

@@ -16,7 +16,7 @@ use Rattle.func_gen.specs.declared.function_bindgen.FunctionBindgen.{FunctionBin
 use Rattle.func_gen.specs.declared.function_bindgen.OpenBlock.{OpenBlock}
 use Rattle.func_gen.specs.declared.operand.ExprOperand.{ExprOperand}
 use Rattle.func_gen.specs.CaseForms.{AreFormsOf, CasedType, a_result, a_variant, an_option}
-use Rattle.func_gen.specs.CodeOf.{calls_core, emitted}
+use Rattle.func_gen.specs.CodeOf.{calls_core, context, emitted}
 use Rattle.func_gen.specs.Emission.{Emission, Writes}
 use Rattle.func_gen.specs.LiftedCases.{FreesBy, LiftsBy, LiftsVariantBy}
 use Rattle.func_gen.specs.MatchForms.{LowersBy}
@@ -64,7 +64,7 @@ called _ = no_call
 -- it becomes what the table says
 pub record BecomesTold (step : Sent) (os rs : List ExprOperand) (old new : FunctionBindgen) : Type 0 where
   pub code : ℕ → Emission
-  pub is : emitted old step (exprs_of os) ≡ Some code
+  pub is : emitted (context old) step (exprs_of os) ≡ Some code
   pub writes : Writes code rs old new
 
 -- the core import of a function of the table is declared, with its core words, and called, with an operand for each word that it is passed
@@ -72,7 +72,7 @@ pub record CallsImported (types : List TypeDef) (f : Function) (os rs : List Exp
   pub answer : Option WasmType
   pub answers : option_to_list answer ≡ import_results types f
   pub many : length os ≡ length (import_params types f)
-  pub writes : Writes (calls_core old f (import_params types f) answer (exprs_of os)) rs old new
+  pub writes : Writes (calls_core old.home f (import_params types f) answer (exprs_of os)) rs old new
 
 -- all code so far becomes the block of a method's call, and the value that is due is a local
 pub record CallsMethod (due : Option WitType) (f : Function) (os rs : List ExprOperand) (old new : FunctionBindgen) : Type 0 where

@@ -51,7 +51,7 @@ call_declares types f os rs old new none h c = go c.answer c.answers c.writes
       blocks = subst (AreBare Import) (sym finished) h.blocks;
     }
 
-    go : (answer : Option WasmType) → option_to_list answer ≡ import_results types f → Writes (calls_core old f (import_params types f) answer (exprs_of os)) rs old new → (decl : ImportDecl) × IsImportOf types old.home f decl × HasDeclared Import (decl ∷ []) new
+    go : (answer : Option WasmType) → option_to_list answer ≡ import_results types f → Writes (calls_core old.home f (import_params types f) answer (exprs_of os)) rs old new → (decl : ImportDecl) × IsImportOf types old.home f decl × HasDeclared Import (decl ∷ []) new
     go None answers w =
         let t = w.number in
         let d = import_of old.home f (import_params types f) None (import_name t) in

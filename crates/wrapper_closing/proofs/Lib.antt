@@ -28,6 +28,7 @@ pub mod ImportStart
 pub mod Leaving
 pub mod LentValues
 pub mod LocalSites
+pub mod OneBody
 pub mod OwningValues
 pub mod Placing
 pub mod PostReturnBodyCloses

@@ -21,6 +21,7 @@ use Rattle.func_gen.specs.declared.function_bindgen.FunctionBindgen.{FunctionBin
 use Rattle.func_gen.specs.declared.function_bindgen.OpenBlock.{OpenBlock}
 use Rattle.func_gen.specs.declared.operand.ExprOperand.{ExprOperand}
 use Rattle.func_gen.specs.Added.{Appends}
+use Rattle.func_gen.specs.CodeOf.{context}
 use Rattle.func_gen.specs.Formed.{BecomesTold, ClosesBlock, Formed, OpensBlock, block_of}
 use Rattle.func_gen.specs.LiftedCases.{LiftsBy, LiftsVariantBy, FreesBy}
 use Rattle.func_gen.specs.MatchForms.{LowersBy, lowered_arms, match_of}
@@ -153,7 +154,7 @@ module _ (what : Declaration) where
 
     written : (step : Sent) (os rs : List ExprOperand) (new : FunctionBindgen) → BecomesTold step os rs old new → HasDeclared decls new
     written step os rs new t =
-        let bare = subst (IsBare what) t.is (told_bare what old step (exprs_of os)) in
+        let bare = subst (IsBare what) t.is (told_bare what (context old) step (exprs_of os)) in
         adds new (t.code t.writes.number).stmts t.writes.opened t.writes.stmts (bare t.writes.number) (subst (AreBare what) (sym t.writes.finished) h.blocks)
 
     -- a step that is no call leaves what is declared

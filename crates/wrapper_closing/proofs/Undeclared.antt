@@ -33,10 +33,9 @@ use Rattle.abi_bindgen.specs.Meaning.{Name, the_base, the_element, the_key, the_
 use Rattle.abi_bindgen.specs.Sent.{Sent, asks, sends}
 use Rattle.func_gen.specs.declared.enum_site.EnumSite.{EnumSite}
 use Rattle.func_gen.specs.declared.function_bindgen.FinishedBlock.{FinishedBlock}
-use Rattle.func_gen.specs.declared.function_bindgen.FunctionBindgen.{FunctionBindgen}
 use Rattle.func_gen.specs.declared.function_bindgen.ParamSite.{ParamSite}
 use Rattle.func_gen.specs.CastForms.{cast_expr, cast_stmts, needs_slot, slot_prefix, stmts_from}
-use Rattle.func_gen.specs.CodeOf.{emitted, hands_text, local_of, makes_record, splits_record}
+use Rattle.func_gen.specs.CodeOf.{Context, emitted, hands_text, local_of, makes_record, splits_record}
 use Rattle.func_gen.specs.Emission.{Emission, alone}
 use Rattle.func_gen.specs.EnumForms.{case_cast, case_let, enum_at, lifts_enum}
 use Rattle.func_gen.specs.FlagsForms.{flags_at, lifts_flags, lowers_flags}
@@ -224,7 +223,7 @@ module _ (what : Declaration) where
   enums_bare e None = tt
   enums_bare e (Some s) = enum_bare e s
 
-  pub told_bare : (b : FunctionBindgen) (step : Sent) (es : List Expr) → IsBare (emitted b step es)
+  pub told_bare : (b : Context) (step : Sent) (es : List Expr) → IsBare (emitted b step es)
   told_bare b (asks room) [] = λ t. let_one _ _
   told_bare b (sends (GetArg n)) [] = for_each (slice_get b.params n) (λ (p : ParamSite). λ t. alone p.operand.expr) (λ p t. no_stmts)
   told_bare b (sends (I32Const n)) [] = λ t. no_stmts

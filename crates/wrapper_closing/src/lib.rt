@@ -3,6 +3,7 @@
 #![tactic(auto)]
 
 mod block;
+mod body_laws;
 mod exports;
 mod imports;
 mod laws;
@@ -14,6 +15,7 @@ mod printed_law;
 mod sites;
 
 pub use block::import_block;
+pub use body_laws::one_body_law;
 pub use exports::export_body;
 pub use imports::import_body;
 pub use laws::{
