@@ -2,6 +2,7 @@ pub mod AskedLemmas
 mod EntryLemmas
 mod FaithfulLemmas
 mod FixedLemmas
+pub mod CalledMethods
 pub mod IdentLemmas
 mod ItemLemmas
 mod KnownLemmas
@@ -14,5 +15,6 @@ mod ResultLemmas
 mod ServedLemmas
 mod SignatureLemmas
 mod SkipLemmas
+pub mod IndirectResults
 pub mod TreeLemmas
 pub mod WrapperLemmas

@@ -1,5 +1,5 @@
 -- Bodies can be made of what stands for the parameters of an import, and of an export.
-use Rattle.std.proofs.Common.{◌≡◌, true, false, not, ◌&&◌, List, [], ◌∷◌, Option, Some, map, inl, inr, refl, sym, ap, ap₂, subst, ◌∙◌}
+use Rattle.std.proofs.Common.{◌≡◌, true, false, not, ◌&&◌, List, [], ◌∷◌, Option, None, Some, is_some, map, inl, inr, refl, sym, ap, ap₂, subst, ◌∙◌}
 use Rattle.std.specs.List.{AllByRecursion}
 use Rattle.wit_model.specs.Bytes.{Bytes}
 use Rattle.wit_model.specs.Distinct.{is_distinct}
@@ -57,6 +57,11 @@ export-are types args parts tables area params distinct = record {
   distinct = ap₂ (λ a ns. is_distinct (a ∷ ns)) area (ap site_names params ∙ named_so (arg_names args)) ∙ distinct;
   defined = tables.1;
 }
+
+-- tables that are at hand are there
+pub there-at-hand : (types : List TypeDef) (o : Option TypeTables) → AreAtHand types o → is_some o ≡ true
+there-at-hand types None at_hand = absurd at_hand
+there-at-hand types (Some tables) at_hand = refl
 
 -- the tables that were taken are those of the types
 pub taken-tables : (types : List TypeDef) (o : Option TypeTables) (tables : TypeTables) → AreAtHand types o → o ≡ Some tables → AreAtHand types (Some tables)

@@ -4,9 +4,9 @@ ghost use Rattle.std.specs.Prelude.{◌≡◌, ◌∷◌, true, IfOk, OnOk};
 ghost use Rattle.wit_model.specs.Distinct.{is_distinct};
 ghost use Rattle.wit_model.specs.IndexRange.{function_in_range};
 ghost use Rattle.wit_model.specs.WellFormed.{IsWellFormed};
-ghost use Rattle.rust_tree.specs.Ident.{rust_ident};
 ghost use Rattle.gen_accept.specs.DeclaredNames.{guest_name};
 ghost use Rattle.wrapper_faithful.specs.Passed.{passed};
+ghost use Rattle.wrapper_closing.specs.Bodies.{calls_method};
 ghost use Rattle.wrapper_closing.specs.Params.{arg_names, export_args, ret_area};
 ghost use Rattle.wrapper_closing.specs.Parts.{CanWriteFunction};
 ghost use Rattle.rust_gen.specs.Body.{AreExportParts, CallsMethodOf, IsCodeOf, IsExportCode, IsExportMade, IsExportOutside};
@@ -16,7 +16,7 @@ use crate::exported::{export_result, guest_name};
 use crate::tables::take_tables;
 use abi_bindgen::Asked;
 use func_gen::{Body, TypeTables};
-use rust_tree::{Block, CallBlock, CoreParam, ExportFn, RuntimeItem, to_rust_ident};
+use rust_tree::{Block, CallBlock, CoreParam, ExportFn, RuntimeItem};
 use std::alloc::Global;
 use wit_model::{Function, List, OutOfMemory, Resolve, Text};
 use wrapper_closing::{BodyParts, cleanup_list, core_params, core_sites, export_body, ret_area};
@@ -50,7 +50,7 @@ pub(crate) fn export_parts(
     let area = ret_area(alloc)?;
     let cleanup = cleanup_list(alloc)?;
     let params = core_sites(alloc, params)?;
-    let taken = take_tables(tables)?;
+    let taken = take_tables(tables);
     Ok(BodyParts {
         sizes: taken.sizes,
         home,
@@ -61,9 +61,10 @@ pub(crate) fn export_parts(
     })
 }
 
-/// The code that a body is. There is no memory also where it calls no method.
-fn code_of(body: Body) -> Result<ExportCode, OutOfMemory>
-    ensures { IfOk result (IsCodeOf body) }
+/// The code that a body is, which calls a method.
+fn code_of(body: Body) -> ExportCode
+    requires { calls_method body ≡ true }
+    ensures { IsCodeOf body result }
 {
     let Body {
         call,
@@ -73,16 +74,17 @@ fn code_of(body: Body) -> Result<ExportCode, OutOfMemory>
         runtime,
     } = body;
     match call {
-        None => Err(OutOfMemory),
-        Some(call) => Ok(ExportCode {
+        Some(call) => ExportCode {
             call,
             rest: Block { stmts, tail },
             area,
             runtime,
-        }),
+        },
+        None => unreachable!(),
     }
 }
 
+/// The code of the wrapper of an exported function, which calls its method, and keeps a value where the function has one.
 fn export_code(
     alloc: Global,
     resolve: &Resolve,
@@ -95,6 +97,7 @@ fn export_code(
     requires writes { CanWriteFunction resolve.now.types (sites_in tables.old) f.now }
     requires tables { AreAtHand resolve.now.types tables.old }
     ensures made { IfOk result (IsExportCode resolve.now.types (sites_in tables.old) f.entry) }
+    ensures calls { IfOk result (λ code. CallsMethodOf f.now code.call) }
     ensures kept { OnOk result (AreAtHand resolve.now.types tables.new) }
     ensures same { OnOk result (sites_in tables.new ≡ sites_in tables.old) }
 {
@@ -102,16 +105,7 @@ fn export_code(
     let parts = export_parts(alloc, resolve, tables, params.as_slice())?;
     let (body, taken) = export_body(alloc, resolve, f, parts)?;
     *tables = Some(taken);
-    let code = code_of(body)?;
-    Ok(code)
-}
-
-/// Whether a block calls the method of a function, and keeps its value where it has one.
-fn calls(f: &Function, method: &Text, call: &CallBlock) -> bool
-    requires { method.now ≡ rust_ident f.now.name }
-    ensures { result ≡ true → CallsMethodOf f.now call.now }
-{
-    call.method.as_str() == method.as_str() && call.result.is_some() == f.result.is_some()
+    Ok(code_of(body))
 }
 
 /// What comes before the code of a wrapper.
@@ -171,32 +165,6 @@ fn export_fn(
     }
 }
 
-/// The code of the wrapper of an exported function, where its block calls the method of the function. There is no memory also where it
-/// doesn't.
-fn calling_code(
-    alloc: Global,
-    resolve: &Resolve,
-    tables: &mut Option<TypeTables>,
-    f: &Function,
-) -> Result<ExportCode, OutOfMemory>
-    requires well { IsWellFormed resolve.now }
-    requires within { function_in_range resolve.now f.now ≡ true }
-    requires code { HasCode resolve.now.types f.now }
-    requires writes { CanWriteFunction resolve.now.types (sites_in tables.old) f.now }
-    requires tables { AreAtHand resolve.now.types tables.old }
-    ensures code { IfOk result (IsExportCode resolve.now.types (sites_in tables.old) f.entry) }
-    ensures calls { IfOk result (λ code. CallsMethodOf f.now code.call) }
-    ensures kept { OnOk result (AreAtHand resolve.now.types tables.new) }
-    ensures same { OnOk result (sites_in tables.new ≡ sites_in tables.old) }
-{
-    let method = to_rust_ident(alloc, &f.name)?;
-    let code = export_code(alloc, resolve, tables, f)?;
-    if !calls(f, &method, &code.call) {
-        return Err(OutOfMemory);
-    }
-    Ok(code)
-}
-
 /// The wrapper of an exported function; the area that it needs, if it needs one; and the items of `_rt` that it asks for.
 #[derive(Drop)]
 pub(crate) struct ExportMade {
@@ -228,7 +196,7 @@ pub(crate) fn export_wrapper(
         rest,
         area,
         runtime,
-    } = calling_code(alloc, resolve, tables, f)?;
+    } = export_code(alloc, resolve, tables, f)?;
     let wrapper = export_fn(resolve, f, head, call, rest);
     Ok(ExportMade {
         wrapper,

@@ -67,7 +67,7 @@ fn import_parts(
     let area = name_beside(alloc, f, "ret_area")?;
     let cleanup = name_beside(alloc, f, "cleanup_list")?;
     let params = import_sites(alloc, f.params.as_slice())?;
-    let taken = take_tables(tables)?;
+    let taken = take_tables(tables);
     Ok(BodyParts {
         sizes: taken.sizes,
         home,

@@ -3,6 +3,8 @@
 ghost use Rattle.std.specs.Prelude.{◌≡◌, true, IfOk, OnOk};
 ghost use Rattle.wit_model.specs.IndexRange.{function_in_range};
 ghost use Rattle.wit_model.specs.WellFormed.{IsWellFormed};
+ghost use Rattle.wrapper_meaning.specs.Represents.{is_indirect};
+ghost use Rattle.wrapper_meaning.specs.Shape.{result_shape};
 ghost use Rattle.rust_gen.specs.Body.{IsReturnCode, IsReturnMade};
 ghost use Rattle.rust_gen.specs.Known.{AreAtHand, HasCode, sites_in};
 
@@ -13,7 +15,7 @@ use std::alloc::Global;
 use wit_model::{Function, List, OutOfMemory, Resolve};
 use wrapper_closing::{post_return_body, post_return_params};
 
-/// The block of a post-return function, and the items of `_rt` that it asks for. There is no memory also where the function is given nothing.
+/// The block of a post-return function, and the items of `_rt` that it asks for. The function is given the address of the result.
 fn return_code(
     alloc: Global,
     resolve: &Resolve,
@@ -23,15 +25,13 @@ fn return_code(
     requires well { IsWellFormed resolve.now }
     requires within { function_in_range resolve.now f.now ≡ true }
     requires code { HasCode resolve.now.types f.now }
+    requires indirect { is_indirect (result_shape resolve.now.types f.now) ≡ true }
     requires tables { AreAtHand resolve.now.types tables.old }
     ensures made { IfOk result (λ made. IsReturnCode resolve.now.types (sites_in tables.old) f.now made.0 made.1) }
     ensures kept { OnOk result (AreAtHand resolve.now.types tables.new) }
     ensures same { OnOk result (sites_in tables.new ≡ sites_in tables.old) }
 {
     let params = post_return_params(alloc, resolve, f)?;
-    if params.is_empty() {
-        return Err(OutOfMemory);
-    }
     let parts = export_parts(alloc, resolve, tables, params.as_slice())?;
     let (body, taken) = post_return_body(alloc, resolve, f, parts)?;
     *tables = Some(taken);
@@ -71,6 +71,7 @@ pub(crate) fn post_return(
     requires well { IsWellFormed resolve.now }
     requires within { function_in_range resolve.now f.now ≡ true }
     requires code { HasCode resolve.now.types f.now }
+    requires indirect { is_indirect (result_shape resolve.now.types f.now) ≡ true }
     requires tables { AreAtHand resolve.now.types tables.old }
     ensures made { IfOk result (λ made. IsReturnMade resolve.now.types (sites_in tables.old) f.now made.0 made.1) }
     ensures kept { OnOk result (AreAtHand resolve.now.types tables.new) }

@@ -1,6 +1,6 @@
 //! What is known of a world's types, by which the bodies of a file are made.
 
-ghost use Rattle.std.specs.Prelude.{◌≡◌, true, Some, IfOk, slice_get};
+ghost use Rattle.std.specs.Prelude.{◌≡◌, true, Some, is_some, IfOk, slice_get};
 ghost use Rattle.wit_model.specs.declared.world.World.{World};
 ghost use Rattle.type_defs.specs.Levels.{are_shallow};
 ghost use Rattle.type_sites.specs.Sites.{type_sites};
@@ -31,12 +31,13 @@ pub(crate) fn type_tables(
     }
 }
 
-/// The tables, for one body. There is no memory also where they were not handed back.
-pub(crate) fn take_tables(tables: &mut Option<TypeTables>) -> Result<TypeTables, OutOfMemory>
-    ensures { IfOk result (λ taken. tables.old ≡ Some taken) }
+/// The tables, for one body.
+pub(crate) fn take_tables(tables: &mut Option<TypeTables>) -> TypeTables
+    requires { is_some tables.old ≡ true }
+    ensures { tables.old ≡ Some result }
 {
     match tables.take() {
-        Some(taken) => Ok(taken),
-        None => Err(OutOfMemory),
+        Some(taken) => taken,
+        None => unreachable!(),
     }
 }

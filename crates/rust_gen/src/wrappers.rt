@@ -19,6 +19,8 @@ ghost use Rattle.type_defs.specs.Levels.{are_shallow};
 ghost use Rattle.type_defs.specs.ParamType.{HasFacts};
 ghost use Rattle.type_defs.specs.PartType.{printed_result};
 ghost use Rattle.type_sites.specs.Sites.{type_sites};
+ghost use Rattle.wrapper_meaning.specs.Represents.{is_indirect};
+ghost use Rattle.wrapper_meaning.specs.Shape.{result_shape};
 ghost use Rattle.wrapper_closing.specs.Parts.{CanWriteFunction};
 ghost use Rattle.rust_gen.specs.Asking.{ExportAsks, ImportAsks, ReturnAsks, WrapperAsks, asked_with, bare};
 ghost use Rattle.rust_gen.specs.Bound.{Parts, areas_of, export_items, return_items};
@@ -158,6 +160,7 @@ fn push_returning(
     requires well { IsWellFormed resolve.now }
     requires within { function_in_range resolve.now f.now ≡ true }
     requires code { HasCode resolve.now.types f.now }
+    requires indirect { is_indirect (result_shape resolve.now.types f.now) ≡ true }
     requires tables { AreAtHand resolve.now.types tables.old }
     ensures made { OnOk result
         ((p : Option PostReturnFn × List RuntimeItem) × (items.new ≡ items.old ++ return_items p.0) × (asked.new ≡ asked.old ++ p.1) × ReturnAsks resolve.now.types (sites_in tables.old) true f.now p.0 p.1) }

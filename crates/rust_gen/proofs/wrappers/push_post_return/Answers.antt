@@ -1,8 +1,14 @@
 use Rattle.std.proofs.Common.{◌≡◌, ◌∙◌, true, false, [], None, append-nil, refl, subst, sym}
+use Rattle.wrapper_meaning.specs.Shape.{result_shape}
 use Rattle.gen_accept.specs.Area.{needs_return}
 use Rattle.rust_gen.specs.Asking.{ReturnAsks}
 use Rattle.rust_gen.specs.Known.{sites_in}
+use Rattle.rust_gen.proofs.IndirectResults.{freed_by_area}
 use Rattle.rust_gen.proofs.wrappers.push_post_return.Goals as goal
+
+pub push_returning-requires-clause-indirect : goal.push_returning-requires-clause-indirect
+push_returning-requires-clause-indirect c =
+    freed_by_area (result_shape c.args.resolve.now.types c.args.f.now) c.requires.code.serves.result (sym c.needs_return.ensures ∙ c.if-needs_return.true)
 
 pub returns-in_ok-push_returning-clause-made : goal.returns-in_ok-push_returning-clause-made
 returns-in_ok-push_returning-clause-made c =
