@@ -9,6 +9,7 @@ use Rattle.wrapper_meaning.specs.Shape.{Shape}
 use Rattle.wrapper_meaning.specs.Value.{Value}
 use Rattle.wrapper_meaning.proofs.PostReturn.{total-append}
 use Rattle.abi_bindgen.specs.Account.{Done, Follows, Got, Outcome, Peer, Stopped, Stops, Stuck, account_in, addresses, releasing}
+use Rattle.abi_bindgen.specs.Arms.{gives_words}
 use Rattle.abi_bindgen.specs.Blocks.{AreFinished, Finishes, IsOfWord, Pushes, Runs, StopsAlike, brought, names, owned_datum}
 use Rattle.abi_bindgen.specs.CaseBlocks.{AddsBlocks, GivesWords}
 use Rattle.abi_bindgen.specs.Instructions.{AddsCode}
@@ -120,6 +121,10 @@ module _ {Self Operand : Type 0} (m : Meaning Self Operand) where
   pub words_own : (ws : List Word) → flat_map (owned_datum m) (core_data m ws) ≡ []
   words_own [] = refl
   words_own (x ∷ ws) = words_own ws
+
+  pub words_given : (ws : List Word) → gives_words m (core_data m ws) ≡ true
+  words_given [] = refl
+  words_given (x ∷ ws) = words_given ws
 
   pub words_facts : (os : List Operand) (ws : List Word) → AllByRecursion IsOfWord (ofs m os (core_data m ws))
   words_facts [] ws = tt

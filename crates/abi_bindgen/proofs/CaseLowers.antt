@@ -1,5 +1,5 @@
 -- The cases of a type become core words, by a block for each; and then the instruction makes words of the value.
-use Rattle.std.proofs.Common.{◌≡◌, ℕ, suc, ◌+◌, ◌<◌, ◌≤◌, ◌^◌, Bool, true, false, pos, List, [], ◌∷◌, ◌++◌, length, map, reverse, replicate, take, drop, Option, None, Some, refl, sym, ap, ◌∙◌, subst, arith, append-nil}
+use Rattle.std.proofs.Common.{◌≡◌, ℕ, suc, ◌+◌, ◌<◌, ◌≤◌, ◌^◌, Bool, true, false, pos, List, [], ◌∷◌, ◌++◌, length, map, reverse, replicate, take, drop, Option, None, Some, if◌then◌else◌, refl, sym, ap, ◌∙◌, subst, arith, append-nil}
 use Rattle.std.specs.List.{flat_map, slice_get}
 use Rattle.std.proofs.lemmas.List.{length-append, length-drop, length-map, length-replicate, length-reverse, reverse-reverse}
 use mathlib.Core.Logic.{inl, inr}
@@ -24,7 +24,7 @@ use Rattle.wrapper_meaning.proofs.PostReturn.{total-append}
 use Rattle.wrapper_meaning.proofs.WordsDetermined.{are_words-length}
 use Rattle.abi_bindgen.specs.declared.instruction.Instruction.TheVariants.{I32Const, VariantPayloadName}
 use Rattle.abi_bindgen.specs.Account.{Account, Done, Follows, Got, Outcome, Peer, Stopped, Stops, Stuck, account_in, addresses, releasing, then_do}
-use Rattle.abi_bindgen.specs.Arms.{Armed, arms}
+use Rattle.abi_bindgen.specs.Arms.{Armed, arms, gives_words}
 use Rattle.abi_bindgen.specs.Blocks.{Finishes, IsOpen, Pushes, owned_datum}
 use Rattle.abi_bindgen.specs.CaseBlocks.{AddsBlocks, GivesWords, LowersCases}
 use Rattle.abi_bindgen.specs.Cases.{LowersCase, PayloadStands, with_case}
@@ -38,7 +38,7 @@ use Rattle.abi_bindgen.specs.Parts.{count}
 use Rattle.abi_bindgen.specs.SlotCasts.{AddsZeros, CastsAll, FitIn, ReadBack}
 use Rattle.abi_bindgen.specs.Turns.{Arrives, Moved, Went}
 use Rattle.abi_bindgen.proofs.BareCases.{number_ranged}
-use Rattle.abi_bindgen.proofs.BlockRuns.{block_passes, blocks_both, blocks_used, code_grows, get_behind, get_front, no_blocks, one_block, take_front, way_owned, words_own}
+use Rattle.abi_bindgen.proofs.BlockRuns.{block_passes, blocks_both, blocks_used, code_grows, get_behind, get_front, no_blocks, one_block, take_front, way_owned, words_given, words_own}
 use Rattle.abi_bindgen.proofs.Runs.{adds_both, core_append, does_both, ofs_append, stays_then}
 use Rattle.abi_bindgen.proofs.WordBits.{cast_length, fit_length, to_slots, written_are, written_left, written_read, zeros_are, zeros_zero}
 
@@ -242,8 +242,11 @@ module _ {Self Operand : Type 0} (m : Meaning Self Operand) (sound : Sound m) (r
     abbrev Armful : Went m (Armed m) → m.State → Type 0
     Armful = Arrives m w b c others (λ l fs. fs ≡ ofs m os l.results) (λ l. flat_map (owned_datum m) l.results)
 
+    abbrev Fitting : Ended m.Item m.State → Bool → Outcome m.Item (Went m (Armed m))
+    Fitting e fit = if fit then Done (record { result = record { number = i; results = e.results }; state = e.state; account = m.account e.state }) else Stuck (m.account e.state)
+
     abbrev RunArm : Outcome m.Item (Ended m.Item m.State) → Outcome m.Item (Went m (Armed m))
-    RunArm o = then_do o (λ e. Done (record { result = record { number = i; results = e.results }; state = e.state; account = m.account e.state }))
+    RunArm o = then_do o (λ e. Fitting e (gives_words m e.results))
 
     abbrev Gave : Got m.Item (Unit {0}) → Ended m.Item m.State → Type 0
     Gave x e = (e.results ≡ core_data m ws) × (m.account e.state ≡ x.account) × SameItems (m.owns e.state) (m.owns at) × ((b : Self) (facts : Facts m) → m.denotes w b facts at → m.denotes w b facts e.state)
@@ -265,15 +268,22 @@ module _ {Self Operand : Type 0} (m : Meaning Self Operand) (sound : Sound m) (r
         )
 
     arm_calls : (q : Outcome m.Item (Ended m.Item m.State)) → Follows m.account (RunArm q) (m.does w p (m.code c) s0) Armful → (account_in m.account (m.does w p (m.code c) s0)).calls ≡ (account_in (λ e. m.account e.state) q).calls
-    arm_calls (Done e) h = ap (λ o. (account_in m.account o).calls) h.1 ∙ ap (λ (acc : Account m.Item). acc.calls) h.2.account
+    arm_calls (Done e) h = by (gives_words m e.results) h
+      where
+        by : (fit : Bool) → Follows m.account (Fitting e fit) (m.does w p (m.code c) s0) Armful → (account_in m.account (m.does w p (m.code c) s0)).calls ≡ (m.account e.state).calls
+        by true k = ap (λ o. (account_in m.account o).calls) k.1 ∙ ap (λ (acc : Account m.Item). acc.calls) k.2.account
+        by false k = k
     arm_calls (Stopped e acc) h = ap (λ o. (account_in m.account o).calls) h
     arm_calls (Stuck acc) h = h
 
     arm_followed : (o : Outcome m.Item (Got m.Item (Unit {0}))) (q : Outcome m.Item (Ended m.Item m.State)) → Follows (λ e. m.account e.state) o q Gave → Follows m.account (RunArm q) (m.does w p (m.code c) s0) Armful
         → Follows m.account o (m.does w p (m.code c) s0) Passed
     arm_followed (Done x) q h k =
-        let r = subst (λ z. Follows m.account (RunArm z) (m.does w p (m.code c) s0) Armful) h.1 k in
-        (r.0, r.1, ran_done x h.0 r.0 h.2 r.2)
+        let e = h.0 in
+        let fit : gives_words m e.results ≡ true = ap (gives_words m) h.2.0 ∙ words_given m ws in
+        let done = subst (λ z. Follows m.account (RunArm z) (m.does w p (m.code c) s0) Armful) h.1 k in
+        let r = subst (λ b. Follows m.account (Fitting e b) (m.does w p (m.code c) s0) Armful) fit done in
+        (r.0, r.1, ran_done x e r.0 h.2 r.2)
     arm_followed (Stopped e acc) q h k = subst (λ z. Follows m.account (RunArm z) (m.does w p (m.code c) s0) Armful) h k
     arm_followed (Stuck acc) q h k = arm_calls q k ∙ h
 

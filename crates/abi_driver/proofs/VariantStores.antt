@@ -23,7 +23,7 @@ use Rattle.wrapper_meaning.specs.Value.{case_number}
 use Rattle.wrapper_meaning.proofs.HoldsLocally.{payload_within}
 use Rattle.wrapper_meaning.proofs.PostReturn.{total-append}
 use Rattle.abi_bindgen.specs.Account.{Account, Done, Outcome, Stuck, addresses, then_do}
-use Rattle.abi_bindgen.specs.Arms.{Armed, arm, arms, gives_any}
+use Rattle.abi_bindgen.specs.Arms.{Armed, arm, arms, gives_words}
 use Rattle.abi_bindgen.specs.Blocks.{owned_datum}
 use Rattle.abi_driver.specs.FinishedBlocks.{HasCaseRoom}
 use Rattle.abi_bindgen.specs.Cases.{payloads_of, with_case}
@@ -90,8 +90,8 @@ module _ {Self Operand : Type 0} (m : Meaning Self Operand) (sound : Sound m) wh
         let ended = gives.state in
         let Result : Type 0 = Went m (Armed m) in
         let went : Result = record { result = record { number = n; results = [] }; state = ended; account = m.account ended } in
-        let run = arm m (gives_any m) (λ z. m.runs w f z (with_case m payload)) n begin (Some body) in
-        let go : Ended m.Item m.State → Outcome m.Item Result = λ z. if gives_any m z.results then Done (record { result = record { number = n; results = z.results }; state = z.state; account = m.account z.state }) else Stuck (m.account z.state) in
+        let run = arm m (gives_words m) (λ z. m.runs w f z (with_case m payload)) n begin (Some body) in
+        let go : Ended m.Item m.State → Outcome m.Item Result = λ z. if gives_words m z.results then Done (record { result = record { number = n; results = z.results }; state = z.state; account = m.account z.state }) else Stuck (m.account z.state) in
         let armed : run ≡ Done went = ap (λ o. then_do o go) gives.runs in
         let last = follows_done m.account run (m.does w f (m.code c) s0) (Arrives m w b c (pointer ++ others) (λ l fs. fs ≡ ofs m [] l.results) (λ l. flat_map (owned_datum m) l.results)) went armed ran.2 in
         let t = last.0 in
