@@ -9,6 +9,7 @@ pub mod EnumLowers
 pub mod FlagLowers
 pub mod FlatCode
 pub mod FlowSteps
+pub mod LawInstances
 pub mod LowerSteps
 pub mod Ordinary
 pub mod Payloads

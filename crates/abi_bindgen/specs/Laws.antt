@@ -1,15 +1,21 @@
 -- What each meaning keeps, and in which sense code that was added does an action.
-use Rattle.std.specs.Prelude.{◌≡◌, ◌⊎◌, ℕ, suc, true, List, [], ◌∷◌, ◌++◌, length, map, Option, None, IfSome, option_to_list}
+use Rattle.std.specs.Prelude.{◌≡◌, ◌⊎◌, ℕ, suc, true, false, List, [], ◌∷◌, ◌++◌, length, map, Option, None, IfSome, option_to_list}
 use Rattle.std.specs.List.{AllByRecursion}
+use Rattle.wit_model.specs.Bytes.{Bytes}
 use Rattle.wit_model.specs.declared.function.Function.{Function}
+use Rattle.wit_model.specs.declared.name.Name.{Name as FunctionName}
 use Rattle.wit_model.specs.declared.types.TypeDef.{TypeDef}
 use Rattle.wrapper_data.specs.declared.block.Block.{Block}
+use Rattle.wrapper_data.specs.declared.run.Target.TheVariants as target
+use Rattle.wrapper_data.specs.declared.value.RustValue.{RustValue}
 use Rattle.wrapper_data.specs.declared.word.Word.{Word}
 use Rattle.wrapper_data.specs.declared.word.Word.TheVariants as core
 use Rattle.wrapper_meaning.specs.Direction.{give, lend, take}
 use Rattle.wrapper_meaning.specs.InRange.{IsListed}
-use Rattle.wrapper_meaning.specs.Items.{SameItems}
+use Rattle.wrapper_meaning.specs.Items.{AllIn, SameItems}
+use Rattle.wrapper_meaning.specs.Kinds.{has_own_handle}
 use Rattle.wrapper_meaning.specs.Shape.{Shape}
+use Rattle.wrapper_meaning.specs.StandsFor.{Stands}
 use Rattle.wrapper_meaning.specs.Value.{Value}
 use Rattle.abi_bindgen.specs.declared.bindgen.Asked.{Asked}
 use Rattle.abi_bindgen.specs.Account.{Account, Act, Done, Follows, Got, Peer, Stops, account_in, addresses, stay}
@@ -70,6 +76,13 @@ module _ {Self Operand : Type 0} (m : Meaning Self Operand) where
     -- an item that was taken over owns exactly its blocks, and one that is lent none
     pub owned : (t : Shape) (v : Value t) (a : m.Item) (own : List Block) → m.stands take t v a own → SameItems (m.owned a) (addresses own)
     pub lent : (t : Shape) (v : Value t) (a : m.Item) (given own : List Block) → m.stands (lend given) t v a own → m.owned a ≡ []
+    -- whatever stands for a value on the Rust side has an item that does, with the same blocks
+    pub inhabited : (t : Shape) (v : Value t) (r : RustValue) (own : List Block) → Stands m.width take t v r own → (a : m.Item) × m.stands take t v a own
+    -- and what owns its blocks may be lent in each heap that has them, unless a handle in it is its own
+    pub lends : (heap : List Block) (t : Shape) (v : Value t) (a : m.Item) (own : List Block) → has_own_handle t ≡ false → AllIn heap own → m.stands take t v a own → (c : m.Item) × m.stands (lend heap) t v c []
+    -- a function has its own target: of one module the core import of its name, or of one trait the method of its name
+    pub core : (b : Self) → m.imports b ≡ true → (home : Bytes) × ((f : Function) → m.target b f ≡ target.Core home f.name.wit)
+    pub method : (b : Self) → m.exports b ≡ true → (home : Bytes) × (named : FunctionName → Bytes) × ((f : Function) → m.target b f ≡ target.Method home (named f.name))
 
   -- data that may be given to code: words, and items that are lent
   abbrev pub AreLent : Data → Type 0

@@ -20,6 +20,7 @@ use Rattle.wrapper_meaning.specs.Items.{AllIn}
 use Rattle.wrapper_meaning.specs.Numbers.{bit, is_scalar_value, is_signed, low_bits}
 use Rattle.wrapper_meaning.specs.Value.{ScalarValue}
 use Rattle.wrapper_meaning.proofs.Lists.{none_at}
+use Rattle.abi_bindgen.proofs.AllLemmas.{in_left, in_right}
 use Rattle.abi_bindgen.specs.Account.{Account, Done, Got, Outcome, Stuck, Taken, addresses, failing, found, gives, is_at, is_taken, reading, stay, taking, tested}
 use Rattle.abi_bindgen.specs.Lifts.{AreFree, MayTake, took}
 
@@ -62,14 +63,6 @@ took_both xs ys acc = ap (λ t. record acc { taken = t }) (append_assoc acc.take
     both [] ys = refl
     both (x ∷ xs) ys = ap (λ zs. x.address ∷ zs) (both xs ys)
 
-all_first : (whole xs ys : List Block) → AllIn whole (xs ++ ys) → AllIn whole xs
-all_first whole [] ys h = tt
-all_first whole (x ∷ xs) ys h = (h.0, all_first whole xs ys h.1)
-
-all_rest : (whole xs ys : List Block) → AllIn whole (xs ++ ys) → AllIn whole ys
-all_rest whole [] ys h = h
-all_rest whole (x ∷ xs) ys h = all_rest whole xs ys h.1
-
 free_first : (xs ys : List Block) (taken : List ℕ) → AreFree (xs ++ ys) taken → AreFree xs taken
 free_first [] ys taken h = tt
 free_first (x ∷ xs) ys taken h = (h.0, free_first xs ys (taken ++ x.address ∷ []) h.1)
@@ -79,10 +72,10 @@ free_rest [] ys taken h = subst (AreFree ys) (sym (append-nil taken)) h
 free_rest (x ∷ xs) ys taken h = subst (AreFree ys) (append_assoc taken (x.address ∷ []) (addresses xs)) (free_rest xs ys (taken ++ x.address ∷ []) h.1)
 
 pub may_first : {V : Type 0} (xs ys : List Block) (acc : Account V) → MayTake (xs ++ ys) acc → MayTake xs acc
-may_first xs ys acc h = record { formed = h.formed; there = all_first acc.heap.blocks xs ys h.there; free = free_first xs ys acc.taken h.free }
+may_first xs ys acc h = record { formed = h.formed; there = in_left acc.heap.blocks xs ys h.there; free = free_first xs ys acc.taken h.free }
 
 pub may_rest : {V : Type 0} (xs ys : List Block) (acc : Account V) → MayTake (xs ++ ys) acc → MayTake ys (took xs acc)
-may_rest xs ys acc h = record { formed = h.formed; there = all_rest acc.heap.blocks xs ys h.there; free = free_rest xs ys acc.taken h.free }
+may_rest xs ys acc h = record { formed = h.formed; there = in_right acc.heap.blocks xs ys h.there; free = free_rest xs ys acc.taken h.free }
 
 -- 3. Texts
 

@@ -17,7 +17,7 @@ use Rattle.wrapper_values.specs.Owning.{owned_by}
 use Rattle.abi_bindgen.specs.Cases.{PayloadStands}
 use Rattle.func_gen.specs.Meaning.{IsNormal, StandsAsItIs, func_meaning}
 use Rattle.func_gen.specs.StandLemmas.{owned-none, owned-some, owned-unit}
-use Rattle.func_gen.proofs.Normals.{normal_case, normal_unit, passing}
+use Rattle.func_gen.specs.NormalLemmas.{normal_case, normal_unit, passing}
 
 -- a payload is put into a case as it is. Where there is none, `()` may stand there
 abbrev pub Fills : Option RustValue → Option RustValue → Type 0

@@ -30,7 +30,7 @@ use Rattle.wrapper_meaning.specs.Shape.Shape.{flags}
 use Rattle.wrapper_meaning.proofs.Lists.{some_same}
 use Rattle.wrapper_meaning.proofs.RustValues.{out-bits}
 use Rattle.abi_bindgen.proofs.FlagLowers.{one_count}
-use Rattle.func_gen.proofs.Normals.{normal_bits}
+use Rattle.func_gen.specs.NormalLemmas.{normal_bits}
 use Rattle.wrapper_meaning.proofs.PostReturn.{total-append}
 use Rattle.wrapper_values.specs.declared.state.State.{State}
 use Rattle.wrapper_values.specs.declared.state.Val.{Val}

@@ -66,7 +66,6 @@ pub mod Moves
 pub mod Moving
 pub mod NameRows
 pub mod Narrowed
-pub mod Normals
 pub mod NumberQuiet
 pub mod NumberRows
 pub mod NumberedArms

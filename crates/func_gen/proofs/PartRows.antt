@@ -51,6 +51,7 @@ use Rattle.func_gen.specs.Added.{Appends, Fresh}
 use Rattle.func_gen.specs.Facts.{AreOwned}
 use Rattle.func_gen.specs.Forms.{operand_of}
 use Rattle.func_gen.specs.Meaning.{AreaIs, File, IsNormal, Serves, func_meaning, owns_of, passing_level, seen, setting_for}
+use Rattle.func_gen.specs.NormalLemmas.{normal_struct}
 use Rattle.func_gen.specs.Operand.{is_operand}
 use Rattle.func_gen.specs.PartForms.{are_operands, exprs_of}
 use Rattle.func_gen.specs.Read.{env_of}
@@ -94,17 +95,6 @@ are_many : (vs : List Val) (rs : List RustValue) → Are vs rs → length vs ≡
 are_many [] rs h = sym (ap length h)
 are_many (v ∷ vs) [] h = absurd h
 are_many (v ∷ vs) (r ∷ rs) h = ap suc (are_many vs rs h.1)
-
-pub struct_level : (dir : Direction) (rs : List RustValue) → passing_level dir (RustValue-F.Struct rs) ≡ value.Struct rs
-struct_level (lend blocks) rs = refl
-struct_level (make blocks) rs = refl
-struct_level give rs = refl
-struct_level take rs = refl
-
-pub normal_struct : (dir : Direction) (rs : List RustValue) → map (fold-RustValue RustValue (passing_level dir)) rs ≡ rs → IsNormal dir (value.Struct rs)
-normal_struct dir rs h =
-    ap (fold-RustValue RustValue (passing_level dir)) (sym (rolls-Struct rs)) ∙ fold-roll-RustValue RustValue (passing_level dir) (RustValue-F.Struct rs)
-    ∙ struct_level dir (map (fold-RustValue RustValue (passing_level dir)) rs) ∙ ap value.Struct h
 
 -- parts that stand as they are, and pass so
 pub parts_stand : (dir : Direction) (ts : Shapes) (v : Parts ts) (rs : List RustValue) (own : List Block) → PartsStand func_meaning dir ts v rs own → rust.PartsStand 2 dir ts v rs own × (map (fold-RustValue RustValue (passing_level dir)) rs ≡ rs)

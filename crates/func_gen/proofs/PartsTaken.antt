@@ -69,7 +69,8 @@ use Rattle.func_gen.proofs.Quiet.{quiet_operand}
 use Rattle.func_gen.proofs.Rows.{same_area}
 use Rattle.func_gen.proofs.Steps.{func_adds, ran}
 use Rattle.abi_bindgen.specs.Account.{Account}
-use Rattle.func_gen.proofs.PartRows.{areas_last, struct_level}
+use Rattle.func_gen.specs.NormalLemmas.{struct_level}
+use Rattle.func_gen.proofs.PartRows.{areas_last}
 use Rattle.func_gen.proofs.Several.{add_local}
 use Rattle.wrapper_meaning.proofs.PostReturn.{total-append}
 use Rattle.func_gen.proofs.Declared.{unused_with}

@@ -28,64 +28,12 @@ use Rattle.wrapper_values.specs.Effect.{cast_integer, cast_to, converted, intege
 use Rattle.wrapper_values.specs.Owning.{owned}
 use Rattle.wrapper_run.proofs.NumberLemmas.{converted-char, converted-f32, converted-f64, converted-narrow, converted-wide, low_i32-s16, low_i32-s32, low_i32-s8, low_i32-u16, low_i32-u8, low_i64-s64}
 use Rattle.func_gen.specs.Meaning.{IsNormal, StandsAsItIs, passing_level}
+use Rattle.func_gen.specs.NormalLemmas.{scalar_normal}
 use Rattle.func_gen.specs.StandLemmas.{scalar_owns}
 use Rattle.func_gen.specs.Read.{bare_or, converts, on_bare}
 use Rattle.func_gen.proofs.LowBits.{read_s16, read_s8, read_u16, read_u32, read_u64, read_u8}
 
 -- 1. The values of scalars
-
-normal_num : (dir : Direction) (k : WitType) (z : ℤ) → IsNormal dir (value.Num k z)
-normal_num dir k z = ap (fold-RustValue RustValue (passing_level dir)) (sym (rolls-Num k z)) ∙ fold-roll-RustValue RustValue (passing_level dir) (RustValue-F.Num k z) ∙ level dir
-  where
-    level : (dir : Direction) → passing_level dir (RustValue-F.Num k z) ≡ value.Num k z
-    level (lend blocks) = refl
-    level give = refl
-    level take = refl
-    level (make blocks) = refl
-
-normal_bool : (dir : Direction) (b : Bool) → IsNormal dir (value.Bool b)
-normal_bool dir b = ap (fold-RustValue RustValue (passing_level dir)) (sym (rolls-Bool b)) ∙ fold-roll-RustValue RustValue (passing_level dir) (RustValue-F.Bool b) ∙ level dir
-  where
-    level : (dir : Direction) → passing_level dir (RustValue-F.Bool b) ≡ value.Bool b
-    level (lend blocks) = refl
-    level give = refl
-    level take = refl
-    level (make blocks) = refl
-
-normal_char : (dir : Direction) (c : ℕ) → IsNormal dir (value.Char c)
-normal_char dir c = ap (fold-RustValue RustValue (passing_level dir)) (sym (rolls-Char c)) ∙ fold-roll-RustValue RustValue (passing_level dir) (RustValue-F.Char c) ∙ level dir
-  where
-    level : (dir : Direction) → passing_level dir (RustValue-F.Char c) ≡ value.Char c
-    level (lend blocks) = refl
-    level give = refl
-    level take = refl
-    level (make blocks) = refl
-
-normal_f32 : (dir : Direction) (x : ℕ) → IsNormal dir (value.F32 x)
-normal_f32 dir x = ap (fold-RustValue RustValue (passing_level dir)) (sym (rolls-F32 x)) ∙ fold-roll-RustValue RustValue (passing_level dir) (RustValue-F.F32 x) ∙ level dir
-  where
-    level : (dir : Direction) → passing_level dir (RustValue-F.F32 x) ≡ value.F32 x
-    level (lend blocks) = refl
-    level give = refl
-    level take = refl
-    level (make blocks) = refl
-
-normal_f64 : (dir : Direction) (x : ℕ) → IsNormal dir (value.F64 x)
-normal_f64 dir x = ap (fold-RustValue RustValue (passing_level dir)) (sym (rolls-F64 x)) ∙ fold-roll-RustValue RustValue (passing_level dir) (RustValue-F.F64 x) ∙ level dir
-  where
-    level : (dir : Direction) → passing_level dir (RustValue-F.F64 x) ≡ value.F64 x
-    level (lend blocks) = refl
-    level give = refl
-    level take = refl
-    level (make blocks) = refl
-
-pub scalar_normal : (dir : Direction) (s : Scalar) (v : ScalarValue s) → IsNormal dir (rust_scalar s v)
-scalar_normal dir Scalar.bool v = normal_bool dir v
-scalar_normal dir Scalar.f32 v = normal_f32 dir v
-scalar_normal dir Scalar.f64 v = normal_f64 dir v
-scalar_normal dir Scalar.char v = normal_char dir v
-scalar_normal dir Scalar.handle v = elim v [ ]
-scalar_normal dir s v = normal_num dir _ v
 
 -- a value that is equal to a scalar stands for it
 pub stands_scalar : (dir : Direction) (s : Scalar) (v : ScalarValue s) (r : RustValue) → r ≡ rust_scalar s v → StandsAsItIs dir (scalar s) v r []

@@ -2,8 +2,11 @@
 use mathlib.Core.Logic.{inl}
 use Rattle.std.proofs.Common.{◌≡◌, ℕ, ◌≤◌, [], ◌∷◌, ◌++◌, Option, None, Some, refl, sym, ap, ◌∙◌, arith, List}
 use Rattle.std.specs.Prelude.{option_and_then, slice_get}
+use Rattle.std.proofs.lemmas.Bool.{cond-false, cond-true, not-true}
 use Rattle.wit_model.specs.Bytes.{Bytes}
+use Rattle.rust_tree.specs.Ident.{rust_ident}
 use Rattle.rust_tree.specs.declared.expr.Expr.TheVariants as expr
+use Rattle.wrapper_data.specs.declared.run.Target.TheVariants as target
 use Rattle.wrapper_data.specs.declared.value.RustValue.{RustValue}
 use Rattle.wrapper_data.specs.declared.word.Word.{Word}
 use Rattle.wrapper_meaning.specs.Direction.{take}
@@ -22,6 +25,7 @@ use Rattle.func_gen.specs.Facts.{Owns, wrong}
 use Rattle.func_gen.specs.Meaning.{Denote, File, FuncState, func_meaning}
 use Rattle.func_gen.specs.Read.{Env, Read, env_of, item_of, less, read, read_operand}
 use Rattle.func_gen.specs.ReadForms.{read-local, stable}
+use Rattle.func_gen.specs.StandIn.{lent_item, owned_item}
 use Rattle.func_gen.specs.StandLemmas.{given_on, lent_alone, taken_on, taken_owns}
 use Rattle.func_gen.specs.Slot.{Slot, slot_name}
 use Rattle.wrapper_meaning.proofs.PostReturn.{total-append}
@@ -118,4 +122,8 @@ func_sound = record {
   bare = λ t v a heap own h. (lent_alone heap t v a own h.0).1;
   owned = λ t v a own h g. ap (total g) (taken_owns t v a own h.0);
   lent = λ t v a heap own h. (lent_alone heap t v a own h.0).0;
+  inhabited = owned_item;
+  lends = λ heap t v a own no fit h. lent_item heap t v a own no fit h.0;
+  core = λ b import. (b.home, λ f. cond-true b.import (target.Core b.home f.name.wit) (target.Method b.home (rust_ident f.name)) import);
+  method = λ b export. (b.home, rust_ident, λ f. cond-false b.import (target.Core b.home f.name.wit) (target.Method b.home (rust_ident f.name)) (not-true b.import export));
 }

@@ -27,6 +27,7 @@ pub mod MatchForms
 pub mod Meaning
 pub mod MemoryForms
 pub mod MethodForms
+pub mod NormalLemmas
 pub mod Opened
 pub mod Operand
 pub mod OperandView
@@ -38,6 +39,7 @@ pub mod Resumes
 pub mod Scope
 pub mod Sites
 pub mod Slot
+pub mod StandIn
 pub mod StandLemmas
 pub mod Still
 pub mod Suspends
