@@ -40,7 +40,7 @@ use Rattle.func_gen.specs.MethodForms.{call_block, value_local}
 use Rattle.func_gen.specs.PartForms.{exprs_of, locals_of}
 use Rattle.func_gen.specs.Scope.{with_number}
 use Rattle.func_gen.specs.Slot.{block_names}
-use Rattle.func_gen.specs.Still.{StillOf}
+use Rattle.func_gen.specs.Still.{IsWrittenAs, StillOf}
 use Rattle.func_gen.specs.Uses.{Uses}
 use Rattle.func_gen.proofs.Forming.{exprs_operands}
 use Rattle.func_gen.proofs.SameCases.{forms_same}
@@ -54,7 +54,7 @@ abbrev pub unkept : FinishedBlock → FinishedBlock
 unkept b = record b { results = map operand_of (exprs_of b.results) }
 
 pub record Alike (a b : FunctionBindgen) : Type 0 where
-  pub still : StillOf a b
+  pub still : IsWrittenAs a b
   pub scope : b.scope ≡ a.scope
   pub code : b.code ≡ a.code
   pub opened : b.opened ≡ a.opened
@@ -65,14 +65,13 @@ pub record SameStep (rs ss : List ExprOperand) (b d : FunctionBindgen) : Type 0 
   pub results : exprs_of ss ≡ exprs_of rs
   pub alike : Alike b d
 
-still_alike : (a b c d : FunctionBindgen) → StillOf a c → StillOf a b → StillOf c d → StillOf b d
+still_alike : (a b c d : FunctionBindgen) → IsWrittenAs a c → StillOf a b → StillOf c d → IsWrittenAs b d
 still_alike a b c d s h g = record {
   import = g.import ∙ s.import ∙ sym h.import;
   home = g.home ∙ s.home ∙ sym h.home;
   area = g.area ∙ s.area ∙ sym h.area;
   params = g.params ∙ s.params ∙ sym h.params;
   sites = g.sites ∙ s.sites ∙ sym h.sites;
-  sizes = g.sizes ∙ s.sizes ∙ sym h.sizes;
 }
 
 abbrev code_with : Option CallBlock → List Stmt → Code
@@ -216,7 +215,6 @@ used_same n used more a m c k s h g =
           area = ap (λ (b : FunctionBindgen). b.area) g.rest ∙ s.still.area ∙ sym (ap (λ (b : FunctionBindgen). b.area) h.rest);
           params = ap (λ (b : FunctionBindgen). b.params) g.rest ∙ s.still.params ∙ sym (ap (λ (b : FunctionBindgen). b.params) h.rest);
           sites = ap (λ (b : FunctionBindgen). b.sites) g.rest ∙ s.still.sites ∙ sym (ap (λ (b : FunctionBindgen). b.sites) h.rest);
-          sizes = ap (λ (b : FunctionBindgen). b.sizes) g.rest ∙ s.still.sizes ∙ sym (ap (λ (b : FunctionBindgen). b.sizes) h.rest);
         };
         scope = ap (λ (b : FunctionBindgen). b.scope) g.rest ∙ s.scope ∙ sym (ap (λ (b : FunctionBindgen). b.scope) h.rest);
         code = ap (λ (b : FunctionBindgen). b.code) g.rest ∙ s.code ∙ sym (ap (λ (b : FunctionBindgen). b.code) h.rest);
@@ -235,7 +233,6 @@ added_same x y items m b k d s same h g scope = record {
     area = g.area ∙ s.still.area ∙ sym h.area;
     params = g.params ∙ s.still.params ∙ sym h.params;
     sites = g.sites ∙ s.still.sites ∙ sym h.sites;
-    sizes = g.sizes ∙ s.still.sizes ∙ sym h.sizes;
   };
   scope = scope;
   code =

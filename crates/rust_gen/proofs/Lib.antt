@@ -7,6 +7,7 @@ pub mod IdentLemmas
 mod ItemLemmas
 mod KnownLemmas
 mod NamedLemmas
+mod OneCode
 mod OrderLemmas
 mod OwnNames
 mod PartsLemmas

@@ -6,6 +6,7 @@ pub mod Faithful
 pub mod FixedName
 pub mod Generated
 pub mod Known
+pub mod OneCode
 pub mod OptionLines
 pub mod Runtime
 pub mod Served

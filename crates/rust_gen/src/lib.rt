@@ -1,6 +1,7 @@
 //! The generator: from a checked world and options to the tree of its bindings file and the file's text.
 #![tactic(auto)]
 
+mod code_law;
 mod export;
 mod exported;
 mod fixed_name;
@@ -15,6 +16,7 @@ mod tables;
 mod tree;
 mod wrappers;
 
+pub use code_law::one_code_law;
 pub use gen_accept::{
     ChainingMode, Clash, Entry, ExportKey, GenError, Lack, MissingWith, Opts, TooLarge, WithOption,
 };

@@ -1,4 +1,4 @@
--- Two bodies that are made for one function, of the same parts, are equal.
+-- Two bodies that are made for one function, of parts that differ in their layouts alone, are equal.
 use Rattle.std.proofs.Common.{◌≡◌, ℕ, Bool, true, false, List, [], ◌∷◌, map, Option, None, Some, option_map, refl, sym, ap, ap₂, ◌∙◌}
 use Rattle.wit_model.specs.Bytes.{Bytes}
 use Rattle.wit_layout.specs.declared.signature.AbiVariant.TheVariants.{GuestExport, GuestImport}
@@ -11,7 +11,9 @@ use Rattle.abi_bindgen.specs.Code.{call_code, post_return_code}
 use Rattle.func_gen.specs.Body.{Gives, IsBodyOf, needed}
 use Rattle.func_gen.specs.PartForms.{exprs_of}
 use Rattle.func_gen.specs.declared.body.Body.{Body}
+use Rattle.func_gen.specs.Sites.{site_names}
 use Rattle.func_gen.specs.declared.function_bindgen.FunctionBindgen.{FunctionBindgen}
+use Rattle.func_gen.specs.declared.function_bindgen.ParamSite.{ParamSite}
 use Rattle.func_gen.specs.declared.operand.ExprOperand.{ExprOperand}
 use Rattle.func_gen.specs.declared.scope.Scope.{Scope}
 use Rattle.func_gen.proofs.SameCode.{Same, flows_same}
@@ -19,10 +21,10 @@ use Rattle.func_gen.proofs.SameForms.{unkept}
 use Rattle.func_gen.proofs.SameLists.{first_same}
 use Rattle.wrapper_meaning.proofs.Lists.{some_same}
 use Rattle.wrapper_closing.specs.OneBody.{ExportHasOneBody, ImportHasOneBody, PostReturnHasOneBody}
-use Rattle.wrapper_closing.specs.Parts.{IsMadeFrom}
+use Rattle.wrapper_closing.specs.Parts.{AreWrittenAs, IsMadeFrom}
 use Rattle.wrapper_closing.specs.declared.parts.BodyParts.{BodyParts}
 
--- 1. Bindgens that are made of the same parts
+-- 1. Bindgens that are made of such parts
 
 abbrev scope_of : List Bytes → ℕ → Scope
 scope_of used next = record { used = used; next = next }
@@ -30,18 +32,17 @@ scope_of used next = record { used = used; next = next }
 scope_same : (x y : Scope) → x.used ≡ y.used → x.next ≡ y.next → x ≡ y
 scope_same x y used next = ap₂ scope_of used next
 
-made_same : (import : Bool) (parts : BodyParts) (a c : FunctionBindgen) → IsMadeFrom import parts a → IsMadeFrom import parts c → Same a c
-made_same import parts a c h g = record {
+made_same : (import : Bool) (parts others : BodyParts) (a c : FunctionBindgen) → AreWrittenAs parts others → IsMadeFrom import parts a → IsMadeFrom import others c → Same a c
+made_same import parts others a c w h g = record {
   alike = record {
     still = record {
       import = g.of_import ∙ sym h.of_import;
-      home = g.of_home ∙ sym h.of_home;
-      area = g.of_area ∙ sym h.of_area;
-      params = g.of_params ∙ sym h.of_params;
-      sites = g.of_sites ∙ sym h.of_sites;
-      sizes = g.of_sizes ∙ sym h.of_sizes;
+      home = g.of_home ∙ w.home ∙ sym h.of_home;
+      area = g.of_area ∙ w.area ∙ sym h.of_area;
+      params = g.of_params ∙ w.params ∙ sym h.of_params;
+      sites = g.of_sites ∙ w.sites ∙ sym h.of_sites;
     };
-    scope = scope_same c.scope a.scope (g.used ∙ sym h.used) (g.counted ∙ sym h.counted);
+    scope = scope_same c.scope a.scope (g.used ∙ names ∙ sym h.used) (g.counted ∙ sym h.counted);
     code = g.empty ∙ sym h.empty;
     opened = g.closed ∙ sym h.closed;
     runtime = g.unnamed ∙ sym h.unnamed;
@@ -50,6 +51,9 @@ made_same import parts a c h g = record {
   asked = g.unasked ∙ sym h.unasked;
   returned = ap (option_map exprs_of) (g.unreturned ∙ sym h.unreturned);
 }
+  where
+    names : others.area ∷ others.cleanup ∷ site_names others.params ≡ parts.area ∷ parts.cleanup ∷ site_names parts.params
+    names = ap₂ (λ x xs. x ∷ xs) w.area (ap₂ (λ x (ps : List ParamSite). x ∷ site_names ps) w.cleanup w.params)
 
 -- 2. Their bodies, where they are alike behind the code
 
@@ -82,13 +86,13 @@ bodies_same a c body other s h g =
 -- 3. The laws
 
 pub import_has_one : ImportHasOneBody
-import_has_one types func parts body other h g =
-    bodies_same h.new g.new body other (flows_same types (call_code types GuestImport func) [] [] [] [] h.old h.new g.old g.new (made_same true parts h.old g.old h.made g.made) refl h.flows g.flows).same h.body_of g.body_of
+import_has_one types func parts others body other w h g =
+    bodies_same h.new g.new body other (flows_same types (call_code types GuestImport func) [] [] [] [] h.old h.new g.old g.new (made_same true parts others h.old g.old w h.made g.made) refl h.flows g.flows).same h.body_of g.body_of
 
 pub export_has_one : ExportHasOneBody
-export_has_one types func parts body other h g =
-    bodies_same h.new g.new body other (flows_same types (call_code types GuestExport func) [] [] [] [] h.old h.new g.old g.new (made_same false parts h.old g.old h.made g.made) refl h.flows g.flows).same h.body_of g.body_of
+export_has_one types func parts others body other w h g =
+    bodies_same h.new g.new body other (flows_same types (call_code types GuestExport func) [] [] [] [] h.old h.new g.old g.new (made_same false parts others h.old g.old w h.made g.made) refl h.flows g.flows).same h.body_of g.body_of
 
 pub post_return_has_one : PostReturnHasOneBody
-post_return_has_one types f parts body other h g =
-    bodies_same h.new g.new body other (flows_same types (post_return_code types f.result) [] [] [] [] h.old h.new g.old g.new (made_same false parts h.old g.old h.made g.made) refl h.flows g.flows).same h.body_of g.body_of
+post_return_has_one types f parts others body other w h g =
+    bodies_same h.new g.new body other (flows_same types (post_return_code types f.result) [] [] [] [] h.old h.new g.old g.new (made_same false parts others h.old g.old w h.made g.made) refl h.flows g.flows).same h.body_of g.body_of

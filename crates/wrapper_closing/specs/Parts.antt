@@ -34,3 +34,11 @@ IsMadeFrom import parts b = IsMadeOf parts.sizes import parts.home parts.area pa
 -- the tables among them
 abbrev pub tables_of : BodyParts → TypeTables
 tables_of parts = record { sizes = parts.sizes; sites = parts.sites }
+
+-- two are the same but for the layouts, which no text depends on
+pub record AreWrittenAs (parts others : BodyParts) : Type 0 where
+  pub home : others.home ≡ parts.home
+  pub area : others.area ≡ parts.area
+  pub cleanup : others.cleanup ≡ parts.cleanup
+  pub params : others.params ≡ parts.params
+  pub sites : others.sites ≡ parts.sites
