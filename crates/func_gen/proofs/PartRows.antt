@@ -12,12 +12,11 @@ use Rattle.rust_tree.specs.declared.expr.Expr.TheVariants as expr
 use Rattle.rust_tree.specs.declared.stmt.Stmt.TheVariants as stmt
 use Rattle.wrapper_data.specs.declared.block.Block.{Block}
 use Rattle.wrapper_data.specs.declared.choice.Request.{Request}
-use Rattle.wrapper_data.specs.declared.value.RustValue.{RustValue, RustValue-F, fold-RustValue, fold-roll-RustValue}
+use Rattle.wrapper_data.specs.declared.value.RustValue.{RustValue, fold-RustValue}
 use Rattle.wrapper_data.specs.declared.value.RustValue.TheVariants as value
-use Rattle.wrapper_data.specs.declared.value.RustValue.TheVariants.{rolls-Struct}
 use Rattle.wrapper_data.specs.declared.word.Word.{Word}
 use Rattle.wrapper_data.specs.declared.word.Word.TheVariants as core
-use Rattle.wrapper_meaning.specs.Direction.{Direction, give, lend, make, take}
+use Rattle.wrapper_meaning.specs.Direction.{Direction, give, take}
 use Rattle.wrapper_meaning.specs.Items.{total}
 use Rattle.wrapper_meaning.specs.Shape.{Shapes}
 use Rattle.wrapper_meaning.specs.Shape.Shapes.{none, more}

@@ -6,9 +6,9 @@ use mathlib.Core.Logic.{inl, inr}
 use Rattle.wit_layout.specs.Extent.{Extent}
 use Rattle.wit_layout.specs.Sizes.{elem_size, extent_of}
 use Rattle.wrapper_data.specs.declared.block.Block.{Block}
-use Rattle.wrapper_data.specs.declared.value.RustValue.{RustValue, RustValue-F, fold-RustValue, fold-roll-RustValue}
+use Rattle.wrapper_data.specs.declared.value.RustValue.{RustValue, RustValue-F, fold-roll-RustValue}
 use Rattle.wrapper_data.specs.declared.value.RustValue.TheVariants as value
-use Rattle.wrapper_data.specs.declared.value.RustValue.TheVariants.{rolls-Buffer, rolls-Handle, rolls-Map, rolls-Seq}
+use Rattle.wrapper_data.specs.declared.value.RustValue.TheVariants.{rolls-Buffer, rolls-Handle}
 use Rattle.wrapper_meaning.specs.Buffer.{Contents, IsPlaced}
 use Rattle.wrapper_meaning.specs.Direction.{Direction, lend, take}
 use Rattle.wrapper_meaning.specs.InMemory.{EachHolds, Holds, TextHolds, text_extent}
