@@ -43,6 +43,7 @@ pub mod SettledDirect
 pub mod SharedArea
 pub mod Start
 pub mod StepsDeclare
+pub mod StepsKeep
 pub mod TwoWords
 pub mod TypedCases
 pub mod Unasking

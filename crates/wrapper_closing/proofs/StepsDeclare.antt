@@ -1,7 +1,6 @@
 -- What code that calls nothing declares, where so much was declared before it.
-use Rattle.std.proofs.Common.{◌≡◌, ℕ, Bool, not, suc, true, List, [], ◌∷◌, ◌++◌, length, reverse, refl, sym, ap, ◌∙◌, subst}
-use Rattle.std.proofs.lemmas.Bool.{and_parts}
-use Rattle.std.proofs.lemmas.List.{length-map, length-reverse, reverse-append, reverse-reverse}
+use Rattle.std.proofs.Common.{◌≡◌, ℕ, suc, true, false, List, [], ◌∷◌, ◌++◌, length, reverse, refl, sym, ap, ◌∙◌, subst}
+use Rattle.std.proofs.lemmas.List.{length-map, length-reverse}
 use Rattle.wit_model.specs.Bytes.{Bytes}
 use Rattle.wit_model.specs.declared.types.TypeDef.{TypeDef}
 use Rattle.rust_tree.specs.declared.expr.Expr.{Expr}
@@ -9,11 +8,13 @@ use Rattle.rust_tree.specs.declared.runtime_item.RuntimeItem.{RuntimeItem}
 use Rattle.rust_tree.specs.declared.runtime_item.RuntimeItem.TheVariants.{InvalidEnumDiscriminant}
 use Rattle.rust_tree.specs.declared.stmt.ImportDecl.{ImportDecl}
 use Rattle.rust_tree.specs.declared.stmt.Stmt.{Stmt}
-use Rattle.abi_bindgen.specs.declared.instruction.Instruction.TheVariants.{Bitcasts, CallInterface, CallWasm, ConstZero, GuestDeallocateVariant, OptionLift, OptionLower, ResultLift, ResultLower, VariantLift, VariantLower}
+use Rattle.abi_bindgen.specs.declared.instruction.Instruction.{Instruction}
+use Rattle.abi_bindgen.specs.declared.instruction.Instruction.TheVariants.{CallInterface, CallWasm, GuestDeallocateVariant, OptionLift, OptionLower, ResultLift, ResultLower, VariantLift, VariantLower}
 use Rattle.abi_bindgen.specs.Calls.{is_call}
-use Rattle.abi_bindgen.specs.Flow.{Flow, ask, behind, both, cast_by, emit, in_block, leading, leave_none, same, zeros_of, ◌>>>◌}
+use Rattle.abi_bindgen.specs.Flow.{Flow}
 use Rattle.abi_bindgen.specs.Flows.{Flows}
-use Rattle.abi_bindgen.specs.Sent.{Sent, asks, closes, opens, sends}
+use Rattle.abi_bindgen.specs.Sent.{Sent, closes, opens, sends}
+use Rattle.abi_bindgen.proofs.AllLemmas.{all_both, all_left, all_right}
 use Rattle.abi_bindgen.proofs.QuietFlows.{flows_opened, is_quiet}
 use Rattle.func_gen.specs.declared.function_bindgen.Code.{Code}
 use Rattle.func_gen.specs.declared.function_bindgen.FinishedBlock.{FinishedBlock}
@@ -29,13 +30,15 @@ use Rattle.func_gen.specs.Meaning.{func_meaning}
 use Rattle.func_gen.specs.Opened.{is_closed, open_block}
 use Rattle.func_gen.specs.PartForms.{exprs_of}
 use Rattle.func_gen.specs.Uses.{Uses}
+use Rattle.func_gen.proofs.BlocksThere.{all_back}
+use Rattle.func_gen.proofs.KeptNames.{all_others, all_used}
 use Rattle.wrapper_closing.specs.Declares.{Declaration}
+use Rattle.wrapper_closing.proofs.StepsKeep.{StepFits, quiet_fits, whole_keeps}
 use Rattle.wrapper_closing.proofs.Undeclared.{AreBare, Declare, IsBare, declare_more, frees_bare, last_bare, lifts_bare, lowers_bare, no_stmts, told_bare}
 
--- a step is no call
-abbrev is_step_quiet : Sent → Bool
-is_step_quiet (sends i) = not (is_call i)
-is_step_quiet _ = true
+-- an instruction is no call
+abbrev IsNoCall : Instruction → ℕ → Type 0
+IsNoCall i n = is_call i ≡ false
 
 -- 1. What is declared by code that is made
 
@@ -78,23 +81,10 @@ module _ (what : Declaration) where
   outer_closes decls [] o stmts h = (h.0, h.1)
   outer_closes decls (p ∷ opened) o stmts h = let rest = inner_closes opened o stmts h.1 in ((h.0, rest.0), rest.1)
 
-  -- 2. Blocks that are finished and used up
+  -- 2. Steps
 
-  bare_both : (some others : List FinishedBlock) → AreBare what some → AreBare what others → AreBare what (some ++ others)
-  bare_both [] others h g = g
-  bare_both (b ∷ some) others h g = (h.0, bare_both some others h.1 g)
-
-  bare_first : (some others : List FinishedBlock) → AreBare what (some ++ others) → AreBare what some
-  bare_first [] others h = tt
-  bare_first (b ∷ some) others h = (h.0, bare_first some others h.1)
-
-  bare_later : (some others : List FinishedBlock) → AreBare what (some ++ others) → AreBare what others
-  bare_later [] others h = h
-  bare_later (b ∷ some) others h = bare_later some others h.1
-
-  bare_reverse : (blocks : List FinishedBlock) → AreBare what blocks → AreBare what (reverse blocks)
-  bare_reverse [] h = tt
-  bare_reverse (b ∷ blocks) h = subst (AreBare what) (sym (reverse-append (b ∷ []) blocks)) (bare_both (reverse blocks) (b ∷ []) (bare_reverse blocks h.1) (h.0, tt))
+  abbrev Bare : FinishedBlock → Type 0
+  Bare b = Declare what [] b.stmts
 
   module _ (decls : List ImportDecl) (old : FunctionBindgen) (h : HasDeclared decls old) where
     -- statements that declare none are added
@@ -105,14 +95,11 @@ module _ (what : Declaration) where
     }
 
     module _ (used : List FinishedBlock) (n : ℕ) (mid : FunctionBindgen) (uses : Uses used n old mid) where
-      turned : AreBare what (used ++ reverse mid.finished)
-      turned = subst (AreBare what) uses.taken (bare_reverse old.finished h.blocks)
-
       used_bare : AreBare what (reverse used)
-      used_bare = bare_reverse used (bare_first used (reverse mid.finished) turned)
+      used_bare = all_back Bare used (all_used Bare old.finished used mid.finished uses.taken h.blocks)
 
       left_bare : AreBare what mid.finished
-      left_bare = subst (AreBare what) (reverse-reverse mid.finished) (bare_reverse (reverse mid.finished) (bare_later used (reverse mid.finished) turned))
+      left_bare = all_others Bare old.finished used mid.finished uses.taken h.blocks
 
       -- a match of them is added
       matches : (new : FunctionBindgen) (added : List Stmt) (items : List RuntimeItem) → Appends mid new added items → Declare what [] added → HasDeclared decls new
@@ -129,12 +116,12 @@ module _ (what : Declaration) where
     lifted_last : (cases : _) (c : _) (e : Expr) (n v : Bytes) (new : FunctionBindgen) → LiftsVariantBy cases c e n v old new → HasDeclared decls new
     lifted_last cases c e n v new l =
         let bare = subst (AreBare what) l.split (used_bare l.used (suc (length cases)) l.mid l.uses) in
-        matches l.used (suc (length cases)) l.mid l.uses new _ [] l.adds (last_bare what n v e cases c l.first l.last (bare_first l.first (l.last ∷ []) bare) (bare_later l.first (l.last ∷ []) bare).0)
+        matches l.used (suc (length cases)) l.mid l.uses new _ [] l.adds (last_bare what n v e cases c l.first l.last (all_left Bare l.first (l.last ∷ []) bare) (all_right Bare l.first (l.last ∷ []) bare).0)
 
     freed : (k : ℕ) (e : Expr) (new : FunctionBindgen) → FreesBy k e old new → HasDeclared decls new
     freed k e new l =
         let bare = subst (AreBare what) l.split (used_bare l.used (suc k) l.mid l.uses) in
-        matches l.used (suc k) l.mid l.uses new _ [] l.adds (frees_bare what e l.first l.last (bare_first l.first (l.last ∷ []) bare) (bare_later l.first (l.last ∷ []) bare).0)
+        matches l.used (suc k) l.mid l.uses new _ [] l.adds (frees_bare what e l.first l.last (all_left Bare l.first (l.last ∷ []) bare) (all_right Bare l.first (l.last ∷ []) bare).0)
 
     opened_block : (new : FunctionBindgen) → OpensBlock old new → HasDeclared decls new
     opened_block new o =
@@ -149,7 +136,7 @@ module _ (what : Declaration) where
         let parts = outer_closes decls new.opened c.block old.code.stmts (subst (λ x. Outer decls x old.code.stmts) c.opened h.outer) in
         record {
           outer = subst (λ (x : Code). Outer decls new.opened x.stmts) (sym c.code) parts.0;
-          blocks = subst (AreBare what) (sym c.finished) (bare_both old.finished (block_of c.block old.code.stmts os ∷ []) h.blocks (parts.1, tt));
+          blocks = subst (AreBare what) (sym c.finished) (all_both Bare old.finished (block_of c.block old.code.stmts os ∷ []) h.blocks (parts.1, tt));
         }
 
     written : (step : Sent) (os rs : List ExprOperand) (new : FunctionBindgen) → BecomesTold step os rs old new → HasDeclared decls new
@@ -158,7 +145,7 @@ module _ (what : Declaration) where
         adds new (t.code t.writes.number).stmts t.writes.opened t.writes.stmts (bare t.writes.number) (subst (AreBare what) (sym t.writes.finished) h.blocks)
 
     -- a step that is no call leaves what is declared
-    step_declares : (types : List TypeDef) (step : Sent) (os rs : List ExprOperand) (new : FunctionBindgen) → is_step_quiet step ≡ true → Formed types step os rs old new → HasDeclared decls new
+    step_declares : (types : List TypeDef) (step : Sent) (os rs : List ExprOperand) (new : FunctionBindgen) → StepFits types IsNoCall step (length os) → Formed types step os rs old new → HasDeclared decls new
     step_declares types (sends (CallWasm g)) os rs new q f = absurd (let no = q in cc)
     step_declares types (sends (CallInterface g)) os rs new q f = absurd (let no = q in cc)
     step_declares types (sends (VariantLower id n)) os rs new q f = let c = f.code in lowered c.forms c.operand n c.names new c.lowers
@@ -175,21 +162,8 @@ module _ (what : Declaration) where
   -- 3. Code
 
   pub declares_still : (types : List TypeDef) (decls : List ImportDecl) (code : Flow) (reads gives : List ExprOperand) (old new : FunctionBindgen) → is_quiet code ≡ true → Flows func_meaning types code reads gives old new → HasDeclared decls old → HasDeclared decls new
-  declares_still types decls (emit i) reads gives old new q e d = step_declares decls old d types (sends i) reads gives new q e.form
-  declares_still types decls (cast_by casts) reads gives old new q (held, is, e) d = step_declares decls old d types (sends (Bitcasts held)) reads gives new refl e.form
-  declares_still types decls (zeros_of zeros) reads gives old new q (held, is, e) d = step_declares decls old d types (sends (ConstZero held)) reads gives new refl e.form
-  declares_still types decls (ask a) reads gives old new q (none, o, is, p) d = step_declares decls old d types (asks a) [] (o ∷ []) new refl (p.form types)
-  declares_still types decls (in_block code) reads gives old new q (none, results, begun, ended, begins, inside, ends) d =
-      let inner = declares_still types decls code reads results begun ended q inside (step_declares decls old d types opens [] [] begun refl (begins.form types)) in
-      step_declares decls ended inner types closes results [] new refl (ends.form types)
-  declares_still types decls same reads gives old new q h d = subst (HasDeclared decls) (sym h.1) d
-  declares_still types decls leave_none reads gives old new q h d = subst (HasDeclared decls) (sym h.1) d
-  declares_still types decls (leading n) reads gives old new q h d = subst (HasDeclared decls) (sym h.1) d
-  declares_still types decls (behind n) reads gives old new q h d = subst (HasDeclared decls) (sym h.1) d
-  declares_still types decls (one >>> two) reads gives old new q (between, next, h, g) d =
-      let parts = and_parts (is_quiet one) (is_quiet two) q in declares_still types decls two between gives next new parts.1 g (declares_still types decls one reads between old next parts.0 h d)
-  declares_still types decls (both one two) reads gives old new q (left, right, next, h, g, is) d =
-      let parts = and_parts (is_quiet one) (is_quiet two) q in declares_still types decls two reads right next new parts.1 g (declares_still types decls one reads left old next parts.0 h d)
+  declares_still types decls code reads gives old new q h d =
+      whole_keeps types IsNoCall (HasDeclared decls) (λ step os rs old new q f d. step_declares decls old d types step os rs new q f) code reads gives old new (quiet_fits types IsNoCall (λ i n quiet. quiet) code (length reads) q) h d
 
   -- what the code declares where no block is open
   pub outside_of : (decls : List ImportDecl) (b : FunctionBindgen) → b.opened ≡ [] → HasDeclared decls b → Declare what decls b.code.stmts
