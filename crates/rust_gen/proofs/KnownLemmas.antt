@@ -15,7 +15,7 @@ use Rattle.gen_accept.proofs.AcceptedLemmas.{built-kinds, built-world, definable
 use Rattle.gen_accept.proofs.CauseLemmas.{accepted-declares, accepted-small, accepted-type_names, accepted-written}
 use Rattle.gen_accept.proofs.DeclaredLemmas.{distinct_params}
 use Rattle.gen_accept.proofs.FunctionLemmas.{exports-within, imports-within}
-use Rattle.gen_accept.proofs.LargeLemmas.{none-functions}
+use Rattle.gen_accept.proofs.LargeLemmas.{none-filled, none-functions}
 use Rattle.gen_accept.proofs.ServedLemmas.{exports-served, exports-small, imports-served, imports-small}
 use Rattle.rust_gen.specs.Known.{IsKnown}
 
@@ -28,7 +28,8 @@ accepted-is-known opts r id world well built accepted e =
     let declared = accepted-declares opts r world accepted in
     let kinds = built-kinds opts r id world well built accepted e in
     let plain = built-world opts r id world well built accepted e in
-    let few = none-functions r.types world (accepted-small opts r world accepted) in
+    let small = accepted-small opts r world accepted in
+    let few = none-functions r.types world small in
     record {
       well = well;
       types = definable opts r id world well built accepted e;
@@ -40,6 +41,7 @@ accepted-is-known opts r id world well built accepted e =
       exports_code = λ nth f at. record { serves = exports-served r.types world kinds plain nth f at; small = exports-small r.types world few nth f at };
       distinct = distinct_params opts r world declared;
       names = accepted-type_names opts r world accepted;
+      sized = none-filled r.types world small;
       imports_use = imported-types opts r id world well built accepted e;
       exports_use = exported-types opts r id world well built accepted e;
     }

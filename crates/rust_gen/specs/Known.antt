@@ -7,7 +7,7 @@ use Rattle.wit_model.specs.declared.name.WorldId.{WorldId}
 use Rattle.wit_model.specs.declared.resolve.Resolve.{Resolve}
 use Rattle.wit_model.specs.declared.types.TypeDef.{TypeDef}
 use Rattle.wit_model.specs.declared.world.World.{World}
-use Rattle.wit_layout.specs.Filled.{IsFilledFor}
+use Rattle.wit_layout.specs.Filled.{IsFilledFor, first_too_large}
 use Rattle.abi_bindgen.specs.Served.{ServesFunction}
 use Rattle.abi_driver.specs.Low.{IsSmallRecord}
 use Rattle.func_gen.specs.TypeSites.{CanBeDefined}
@@ -53,8 +53,10 @@ sites_in (Some tables) = tables.sites
 abbrev pub CanWriteFunctions : List TypeDef → List (Option TypeSite) → List Function → Type 0
 CanWriteFunctions types sites fs = (nth : ℕ) (f : Function) → slice_get fs nth ≡ Some f → CanWriteFunction types sites f
 
--- the types of some world of this place can be defined, and items can define as they are written those that its functions use
+-- no type is too large. The types of some world of this place can be defined, and items can define as they are written those that its
+-- functions use
 pub record CanWriteTypes (r : Resolve) (id : WorldId) : Type 0 where
+  pub sized : first_too_large r.types ≡ None
   pub opts : TypeOpts
   pub world : World
   pub definable : AreDefinable opts r id world
@@ -75,5 +77,6 @@ pub record IsKnown (opts : Opts) (r : Resolve) (id : WorldId) (world : World) : 
   pub exports_code : HaveCode r.types (exported_functions world)
   pub distinct : HaveDistinctParams (imported_functions world)
   pub names : are_type_names r.types ≡ true
+  pub sized : first_too_large r.types ≡ None
   pub imports_use : UseTypes r world (imported_functions world)
   pub exports_use : UseTypes r world (exported_functions world)

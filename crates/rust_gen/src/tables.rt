@@ -9,11 +9,11 @@ ghost use Rattle.rust_gen.specs.Known.{AreAtHand, CanWriteTypes, sites_in};
 use func_gen::TypeTables;
 use std::alloc::Global;
 use type_sites::type_sites;
-use wit_layout::SizeAlign;
+use wit_layout::{LayoutFault, SizeAlign};
 use wit_model::{OutOfMemory, Resolve, WorldId};
 
 /// The tables of a world's types: their layouts, and how the types are written that a function of the world uses. Each body takes them and
-/// hands them back. There is no memory also where a type is too large, which an accepted world has none of.
+/// hands them back.
 pub(crate) fn type_tables(
     alloc: Global,
     resolve: &Resolve,
@@ -27,7 +27,8 @@ pub(crate) fn type_tables(
     let sites = type_sites(alloc, resolve, id)?;
     match SizeAlign::fill(alloc, resolve) {
         Ok(sizes) => Ok(Some(TypeTables { sizes, sites })),
-        Err(_) => Err(OutOfMemory),
+        Err(LayoutFault::OutOfMemory) => Err(OutOfMemory),
+        Err(LayoutFault::TooLarge(_)) => unreachable!(),
     }
 }
 

@@ -20,6 +20,7 @@ use Rattle.rust_gen.proofs.tree.world_items.Goals as goal
 
 pub push_wrappers-requires-clause-types : goal.push_wrappers-requires-clause-types
 push_wrappers-requires-clause-types c = record {
+  sized = c.requires.sized;
   opts = type_opts c.args.opts.now;
   world = c.args.world.now;
   definable = c.requires.types;
