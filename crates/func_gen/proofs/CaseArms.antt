@@ -1,5 +1,5 @@
 -- The arms of cases that are lowered: the one of a value's case runs its block with the payload.
-use Rattle.std.proofs.Common.{◌≡◌, ◌+◌, ◌++◌, ◌&&◌, ℕ, zero, suc, true, not, List, [], ◌∷◌, length, map, Option, Some, refl, sym, ap, ◌∙◌, subst, arith, append-nil}
+use Rattle.std.proofs.Common.{◌≡◌, ◌+◌, ◌++◌, ◌&&◌, ℕ, zero, suc, true, List, [], ◌∷◌, length, map, Option, Some, refl, sym, ap, ◌∙◌, subst, arith, append-nil}
 use Rattle.std.specs.Prelude.{nat_eq, slice_get}
 use Rattle.std.specs.List.{list_all}
 use Rattle.std.proofs.lemmas.Bool.{and_parts, eqb-true}
@@ -30,9 +30,9 @@ use Rattle.func_gen.specs.declared.function_bindgen.FinishedBlock.{FinishedBlock
 use Rattle.func_gen.specs.declared.operand.ExprOperand.{ExprOperand}
 use Rattle.func_gen.specs.Entered.{bindings}
 use Rattle.func_gen.specs.Finished.{results_act}
-use Rattle.func_gen.specs.MatchForms.{are_plain, case_path, case_pattern, is_lowerable, lowered_arm, lowered_arms, lowered_body}
+use Rattle.func_gen.specs.MatchForms.{case_path, case_pattern, is_lowerable, lowered_arm, lowered_arms, lowered_body}
 use Rattle.func_gen.specs.Operand.{is_operand}
-use Rattle.func_gen.specs.PartForms.{exprs_of}
+use Rattle.func_gen.specs.PartForms.{are_operands, exprs_of}
 use Rattle.func_gen.specs.Slot.{slot_name}
 use Rattle.func_gen.proofs.ArmChoice.{TakeNumbers, TakesNumber, chosen}
 use Rattle.func_gen.proofs.ArmResults.{AllOperands, arm-made, enters_case, enters_left_out, enters_payload, gives-results}
@@ -108,11 +108,9 @@ case_enters w (form.LeftOut path) k n payload with s (none, brought) =
 
 -- 3. What it gives
 
-pub plain_operands : (os : List ExprOperand) → are_plain os ≡ true → AllOperands (exprs_of os)
-plain_operands [] h = tt
-plain_operands (o ∷ os) h =
-    let two = and_parts (is_operand o.expr && not o.kept) (are_plain os) h in
-    ((and_parts (is_operand o.expr) (not o.kept) two.0).0, plain_operands os two.1)
+all_operands : (os : List ExprOperand) → are_operands os ≡ true → AllOperands (exprs_of os)
+all_operands [] h = tt
+all_operands (o ∷ os) h = let two = and_parts (is_operand o.expr) (are_operands os) h in (two.0, all_operands os two.1)
 
 pub each_evaluated : (w : Setting) (os : List ExprOperand) → map (λ (o : ExprOperand). eval w o.expr) os ≡ map (eval w) (exprs_of os)
 each_evaluated w [] = refl
@@ -120,20 +118,18 @@ each_evaluated w (o ∷ os) = ap (λ acts. eval w o.expr ∷ acts) (each_evaluat
 
 pub record Lowerable (w : Setting) (n : ℕ) (b : FinishedBlock) : Type 0 where
   pub many : length b.results ≡ n
-  pub plain : are_plain b.results ≡ true
   pub gives : run_results w (lowered_body b) ≡ results_act w b
   pub behind : RunsBehind (results_act w b)
   pub asks : AsksNothing (results_act w b)
 
 pub is_lowered : (w : Setting) (n : ℕ) (b : FinishedBlock) → is_lowerable n b ≡ true → Lowerable w n b
 is_lowered w n b h =
-    let two = and_parts (nat_eq (length b.results) n) (is_inward (lowered_body b) && are_plain b.results) h in
-    let last = and_parts (is_inward (lowered_body b)) (are_plain b.results) two.1 in
+    let two = and_parts (nat_eq (length b.results) n) (is_inward (lowered_body b) && are_operands b.results) h in
+    let last = and_parts (is_inward (lowered_body b)) (are_operands b.results) two.1 in
     let same : run_results w (lowered_body b) ≡ results_act w b =
-    gives-results w b.stmts (exprs_of b.results) (plain_operands b.results last.1) ∙ ap (λ acts. run_stmts w b.stmts >> all acts) (sym (each_evaluated w b.results)) in
+    gives-results w b.stmts (exprs_of b.results) (all_operands b.results last.1) ∙ ap (λ acts. run_stmts w b.stmts >> all acts) (sym (each_evaluated w b.results)) in
     record {
       many = eqb-true (length b.results) n two.0;
-      plain = last.1;
       gives = same;
       behind = subst RunsBehind same (walks_given w (λ A act. RunsBehind act) (behind_within w) (lowered_body b) last.0);
       asks = subst AsksNothing same (walks_given w (λ A act. AsksNothing act) (asks_within w) (lowered_body b) last.0);

@@ -1,5 +1,5 @@
 -- The row of a match whose arms are finished blocks: it does what the block of a value's case does.
-use Rattle.std.proofs.Common.{◌≡◌, ◌++◌, ℕ, true, List, [], ◌∷◌, length, map, reverse, take, Option, None, Some, refl, sym, ap, ◌∙◌, subst, arith, append-nil}
+use Rattle.std.proofs.Common.{◌≡◌, ◌++◌, ℕ, Bool, true, false, List, [], ◌∷◌, length, map, reverse, take, Option, None, Some, refl, sym, ap, ◌∙◌, subst, arith, append-nil}
 use Rattle.std.specs.Prelude.{◌≢◌, if◌then◌else◌, slice_get}
 use Rattle.std.specs.List.{flat_map, list_all}
 use Rattle.std.proofs.Math.Seq.{take-append_seam}
@@ -31,7 +31,7 @@ use Rattle.wrapper_run.specs.Run.{eval, run_stmts}
 use Rattle.wrapper_run.proofs.StepLemmas.{Quiet}
 use Rattle.wrapper_run.proofs.VariantSteps.{match_runs}
 use Rattle.abi_bindgen.specs.Account.{Account, Done, Follows, Outcome, Peer, Stuck, account_in, then_do}
-use Rattle.abi_bindgen.specs.Arms.{Armed, arms, gives_any}
+use Rattle.abi_bindgen.specs.Arms.{Armed, arms, gives_words}
 use Rattle.abi_bindgen.specs.Blocks.{owned_datum}
 use Rattle.abi_bindgen.specs.Cases.{LowersCase, with_case}
 use Rattle.abi_bindgen.specs.Laws.{At, Data, Facts, ofs}
@@ -56,7 +56,7 @@ use Rattle.func_gen.proofs.ArmEnds.{arm_ends, arm_stops}
 use Rattle.func_gen.proofs.CaseArms.{AreNumbered, Brings, Lowerable, case_chosen, case_enters, fit_at, is_lowered}
 use Rattle.func_gen.proofs.CaseRows.{FitForms, case_brings, forms_count}
 use Rattle.func_gen.proofs.Lasting.{SameArea, area_same, lasts}
-use Rattle.func_gen.proofs.MatchLocals.{add_data, binds_data, data_under, owns_data, plain_data, with_data}
+use Rattle.func_gen.proofs.MatchLocals.{add_data, binds_data, data_under, owns_data, with_data, words_data}
 use Rattle.func_gen.proofs.Moving.{Used, uses}
 use Rattle.func_gen.proofs.Opening.{reached_in}
 use Rattle.func_gen.proofs.PartRows.{areas_last}
@@ -201,8 +201,11 @@ module _ (old mid new : FunctionBindgen) (forms : List CaseForm) (e : Expr) (n :
       abbrev Reached : Went func_meaning (Armed func_meaning) → FuncState → Type 0
       Reached = Arrives func_meaning w old new others (λ l fs. fs ≡ ofs func_meaning (locals_of names) l.results) (λ l. flat_map (owned_datum func_meaning) l.results)
 
+      abbrev fitting : Bool → Data func_meaning → State → Outcome RustValue (Went func_meaning (Armed func_meaning))
+      fitting fit ds t = if fit then Done (record { result = record { number = i; results = ds }; state = record { machine = t; area = s.area }; account = account_of t }) else Stuck (account_of t)
+
       abbrev armed : Outcome RustValue (Ended RustValue FuncState) → Outcome RustValue (Went func_meaning (Armed func_meaning))
-      armed o = then_do o (λ ended. if gives_any func_meaning ended.results then Done (record { result = record { number = i; results = ended.results }; state = ended.state; account = account_of ended.state.machine }) else Stuck (account_of ended.state.machine))
+      armed o = then_do o (λ ended. if gives_words func_meaning ended.results then Done (record { result = record { number = i; results = ended.results }; state = ended.state; account = account_of ended.state.machine }) else Stuck (account_of ended.state.machine))
 
       -- the data of the results get their names
       named : (u : State) (ds : Data func_meaning) → length names ≡ length ds
@@ -231,15 +234,19 @@ module _ (old mid new : FunctionBindgen) (forms : List CaseForm) (e : Expr) (n :
           → Follows func_meaning.account (armed (done_block (is_nothing left) o moved_to u)) (func_meaning.does w p new.code s0) Reached
       done_with vs u done (x ∷ left) own o is_data = calls_none u (body_asks w p body n one with moved_to enter enters (machine.Done vs u) done)
       done_with vs u done [] own None is_data = calls_none u (body_asks w p body n one with moved_to enter enters (machine.Done vs u) done)
-      done_with vs u done [] own (Some ds) is_data =
-          let is = plain_data body.results vs ds one.plain is_data in
-          let len : length names ≡ length ds = many ∙ sym one.many ∙ sym is.1 in
-          let t = outside operand.then u in (
-            record { machine = with_data t names ds; area = s.area },
-            arrives_by ∙ ap (λ o. seen s.area (binding o)) (body_ends w p body n one with moved_to enter enters vs u done own ∙ ap (λ xs. machine.Done xs t) is.0)
-                ∙ ap (λ o. seen s.area (and_then o (λ _. machine.pure tt))) (binds_data here names ds t len),
-            named u ds len,
-          )
+      done_with vs u done [] own (Some ds) is_data = by (gives_words func_meaning ds) refl
+        where
+          by : (fit : Bool) → gives_words func_meaning ds ≡ fit → Follows func_meaning.account (fitting fit ds (outside operand.then u)) (func_meaning.does w p new.code s0) Reached
+          by false fit = calls_none u (body_asks w p body n one with moved_to enter enters (machine.Done vs u) done)
+          by true fit =
+              let is = words_data body.results vs ds fit is_data in
+              let len : length names ≡ length ds = many ∙ sym one.many ∙ sym is.1 in
+              let t = outside operand.then u in (
+                record { machine = with_data t names ds; area = s.area },
+                arrives_by ∙ ap (λ o. seen s.area (binding o)) (body_ends w p body n one with moved_to enter enters vs u done own ∙ ap (λ xs. machine.Done xs t) is.0)
+                    ∙ ap (λ o. seen s.area (and_then o (λ _. machine.pure tt))) (binds_data here names ds t len),
+                named u ds len,
+              )
 
       stopped_with : (x : Stop) (u : State) → ((k : ℕ) → x ≢ stop_of.Stuck k) → results_act here body (entered (slot_before body) with operand.then) ≡ machine.Stopped x u
           → (locals : List Local) × (func_meaning.does w p new.code s0 ≡ seen s.area (machine.Stopped x (record u { locals = locals; place = operand.then.place })))

@@ -1,11 +1,11 @@
 -- One level of whether code is inward.
-use Rattle.std.proofs.Common.{◌≡◌, ℕ, Bool, ◌&&◌, List, [], ◌∷◌, Option, map, refl, sym, ap, ◌∙◌}
+use Rattle.std.proofs.Common.{◌≡◌, ℕ, Bool, ◌&&◌, List, [], ◌∷◌, map, refl, sym, ap, ◌∙◌}
 use Rattle.std.specs.List.{list_all}
 use Rattle.std.proofs.lemmas.List.Folds.{list_all-map}
 use Rattle.wit_model.specs.Bytes.{Bytes}
 use Rattle.rust_tree.specs.declared.expr.Expr.{Expr, Expr-F, fold-roll-Expr}
 use Rattle.rust_tree.specs.declared.expr.Expr.TheVariants as expr
-use Rattle.rust_tree.specs.declared.expr.Expr.TheVariants.{rolls-Array, rolls-Call, rolls-FlagsOfWords, rolls-Record, rolls-Tuple}
+use Rattle.rust_tree.specs.declared.expr.Expr.TheVariants.{rolls-Call, rolls-FlagsOfWords, rolls-Record, rolls-Tuple}
 use Rattle.rust_tree.specs.declared.path.Path.{Path}
 use Rattle.rust_tree.specs.declared.repr.Repr.{Repr}
 use Rattle.rust_tree.specs.declared.stmt.Arm.{Arm, fold-Arm, fold-roll-Arm, out-Arm, roll-out-Arm}
@@ -14,21 +14,15 @@ use Rattle.rust_tree.specs.declared.stmt.MatchNames.{MatchNames}
 use Rattle.rust_tree.specs.declared.stmt.Stmt.{Stmt-F, fold-roll-Stmt}
 use Rattle.rust_tree.specs.declared.stmt.Stmt.TheVariants as stmt
 use Rattle.rust_tree.specs.declared.stmt.Stmt.TheVariants.{rolls-Match}
-use Rattle.wrapper_run.specs.Inward.{StmtTest, are_inward, declares_slot, inward_arm_step, inward_block_step, inward_step, inward_stmt_step, is_inward, is_inward_expr, is_no_import, plain, stmt_test, writes_slot}
-use Rattle.wrapper_run.specs.Run.{callee}
-use Rattle.func_gen.specs.InwardTests.{is_inward_arm, passes, slot_behind}
+use Rattle.wrapper_run.specs.Inward.{StmtTest, inward_arm_step, inward_block_step, inward_step, inward_stmt_step, is_inward, is_inward_expr, plain, stmt_test}
+use Rattle.func_gen.specs.InwardCode.{is_inward_arm, names_no_import}
 
 -- 1. Statements
 
-pub inward-next : (slot : Option Bytes) (t : StmtTest) (ts : List StmtTest) → are_inward slot (t ∷ ts) ≡ (passes slot t && are_inward (slot_behind t) ts)
-inward-next slot (plain b) ts = refl
-inward-next slot (declares_slot name) ts = refl
-inward-next slot (writes_slot name b) ts = refl
-
-abbrev arm_test : Arm → Bool
+abbrev pub arm_test : Arm → Bool
 arm_test = fold-Arm StmtTest Bool Bool inward_stmt_step inward_arm_step inward_block_step
 
-abbrev block_test : Block → Bool
+abbrev pub block_test : Block → Bool
 block_test = fold-Block StmtTest Bool Bool inward_stmt_step inward_arm_step inward_block_step
 
 inward-block : (b : Block) → block_test b ≡ is_inward b
@@ -48,15 +42,12 @@ test-match names e arms =
 
 -- 2. Expressions
 
-pub inward-call : (path : Path) (es : List Expr) → is_inward_expr (expr.Call path es) ≡ (is_no_import (callee path) && list_all is_inward_expr es)
+pub inward-call : (path : Path) (es : List Expr) → is_inward_expr (expr.Call path es) ≡ (names_no_import path && list_all is_inward_expr es)
 inward-call path es =
-    ap is_inward_expr (sym (rolls-Call path es)) ∙ fold-roll-Expr Bool inward_step (Expr-F.Call path es) ∙ ap (λ b. is_no_import (callee path) && b) (list_all-map (λ b. b) is_inward_expr es)
+    ap is_inward_expr (sym (rolls-Call path es)) ∙ fold-roll-Expr Bool inward_step (Expr-F.Call path es) ∙ ap (λ b. names_no_import path && b) (list_all-map (λ b. b) is_inward_expr es)
 
 pub inward-tuple : (es : List Expr) → is_inward_expr (expr.Tuple es) ≡ list_all is_inward_expr es
 inward-tuple es = ap is_inward_expr (sym (rolls-Tuple es)) ∙ fold-roll-Expr Bool inward_step (Expr-F.Tuple es) ∙ list_all-map (λ b. b) is_inward_expr es
-
-pub inward-array : (es : List Expr) → is_inward_expr (expr.Array es) ≡ list_all is_inward_expr es
-inward-array es = ap is_inward_expr (sym (rolls-Array es)) ∙ fold-roll-Expr Bool inward_step (Expr-F.Array es) ∙ list_all-map (λ b. b) is_inward_expr es
 
 seconds : {K : Type 0} (fields : List (K × Expr)) → list_all (λ (f : K × Bool). f.1) (map (λ f. (f.0, is_inward_expr f.1)) fields) ≡ list_all (λ f. is_inward_expr f.1) fields
 seconds [] = refl

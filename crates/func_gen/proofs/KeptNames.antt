@@ -1,31 +1,41 @@
 -- Names that are used stay so, also those that were used when a block was opened.
-use Rattle.std.proofs.Common.{◌≡◌, false, List, [], ◌∷◌, ◌++◌, reverse, Option, sym, subst}
+use Rattle.std.proofs.Common.{◌≡◌, true, false, List, [], ◌∷◌, ◌++◌, reverse, sym, subst}
 use Rattle.std.specs.List.{AllByRecursion}
 use Rattle.std.proofs.lemmas.List.{reverse-reverse}
 use Rattle.wit_model.specs.Bytes.{Bytes}
-use Rattle.rust_tree.specs.declared.export.CallBlock.{CallBlock}
+use Rattle.rust_tree.specs.declared.stmt.Stmt.{Stmt}
 use Rattle.abi_bindgen.specs.declared.bindgen.Asked.{Asked}
 use Rattle.abi_bindgen.proofs.AllLemmas.{all_both, all_left, all_right}
+use Rattle.func_gen.specs.declared.function_bindgen.Code.{Code}
 use Rattle.func_gen.specs.declared.function_bindgen.FinishedBlock.{FinishedBlock}
 use Rattle.func_gen.specs.declared.function_bindgen.OpenBlock.{OpenBlock}
+use Rattle.func_gen.specs.InwardCode.{are_inward_stmts}
 use Rattle.func_gen.specs.Scope.{Keeps, is_used}
 use Rattle.func_gen.specs.Whole.{IsWhole}
 use Rattle.func_gen.proofs.BlocksThere.{all_back}
+use Rattle.func_gen.proofs.WholeLemmas.{added_blocks}
 
 -- what has names that are used has them still as names are added
 pub still_kept : {A : Type 0} {before after : List Bytes} (names : A → List Bytes) → Keeps before after → (xs : List A) → AllByRecursion (λ x. Keeps (names x) before) xs → AllByRecursion (λ x. Keeps (names x) after) xs
 still_kept names k [] h = tt
 still_kept names k (x ∷ xs) h = (record { free = λ n free. h.0.free n (k.free n free) }, still_kept names k xs h.1)
 
-pub still_whole : {opened : List OpenBlock} {call : Option CallBlock} {asked : List Asked} {before after : List Bytes} {finished : List FinishedBlock}
-    → Keeps before after → IsWhole opened call asked before finished → IsWhole opened call asked after finished
+pub still_whole : {opened : List OpenBlock} {code : Code} {asked : List Asked} {before after : List Bytes} {finished : List FinishedBlock}
+    → Keeps before after → IsWhole opened code asked before finished → IsWhole opened code asked after finished
 still_whole {opened = opened} {finished = finished} k h =
     record {
-      uncalled = h.uncalled;
+      blocks = h.blocks;
       small = h.small;
       around = still_kept (λ (o : OpenBlock). o.names) k opened h.around;
       before = still_kept (λ (b : FinishedBlock). b.names) k finished h.before;
+      inward = h.inward;
     }
+
+-- inward statements may be added
+pub added_whole : {opened : List OpenBlock} {asked : List Asked} {used : List Bytes} {finished : List FinishedBlock} (code : Code) (added : List Stmt)
+    → are_inward_stmts added ≡ true → IsWhole opened code asked used finished → IsWhole opened (record code { stmts = code.stmts ++ added }) asked used finished
+added_whole {opened = opened} code added inward h =
+    record { blocks = added_blocks opened code added inward h.blocks; small = h.small; around = h.around; before = h.before; inward = h.inward }
 
 -- a block is opened, with the names that were used before
 pub opened_kept : {before after : List Bytes} (opened : List OpenBlock) (o : OpenBlock) → o.names ≡ before → Keeps before after → AllByRecursion (λ (p : OpenBlock). Keeps p.names before) opened → AllByRecursion (λ (p : OpenBlock). Keeps p.names after) (opened ++ o ∷ [])

@@ -45,6 +45,9 @@ pub mod Forgetting
 pub mod Forming
 pub mod FreeRow
 pub mod FreedCaseRows
+pub mod InwardArms
+pub mod InwardForms
+pub mod GivenTexts
 pub mod InwardSteps
 pub mod KeptNames
 pub mod KeptOwners
@@ -77,6 +80,7 @@ pub mod PartRows
 pub mod PartsTaken
 pub mod PayloadsThere
 pub mod Placed
+pub mod PlainOperands
 pub mod Quiet
 pub mod RecordInstances
 pub mod RecordRows

@@ -56,6 +56,7 @@ use Rattle.func_gen.proofs.Evaluated.{gives}
 use Rattle.func_gen.proofs.Forming.{form_let, touches_plain}
 use Rattle.func_gen.proofs.LoadTies.{HasLength, Reads, byte_read, f32_read, f64_read, half_read, i32_read, i64_read, length_read, many_at, pointer_read, same_found, signed_byte_read, signed_half_read, small_from}
 use Rattle.func_gen.proofs.Quiet.{quiet_operand}
+use Rattle.func_gen.proofs.PlainOperands.{reads_plainly, touches_plainly}
 use Rattle.func_gen.proofs.Rows.{AgreesBy, let_adds, lets_by}
 use Rattle.func_gen.proofs.StoreRows.{emits_touch}
 
@@ -207,6 +208,12 @@ is_small_load (I32Load16U p) q e =
 is_small_load (I32Load16S p) q e =
     subst (IsSmallLoad (I32Load16S p)) (some_same (p, small.I16) q e) (record { part = low_half; signed = true; ty = wasm.I32; lowered = refl; lifted = refl; touched = refl; size = refl; tie = signed_half_read })
 is_small_load _ q e = absurd (let h = e in cc)
+
+pub whole_load_plainly : (i : Instruction) (q : ArchitectureSize × WasmType) → whole_load i ≡ Some q → reads_plainly i ≡ true
+whole_load_plainly i q e = let t = is_load i q e in touches_plainly i (loads t.part t.signed t.ty q.0) t.lowered t.lifted t.touched
+
+pub small_load_plainly : (i : Instruction) (q : ArchitectureSize × SmallType) → small_load i ≡ Some q → reads_plainly i ≡ true
+small_load_plainly i q e = let t = is_small_load i q e in touches_plainly i (loads t.part t.signed t.ty q.0) t.lowered t.lifted t.touched
 
 module _ (types : List TypeDef) (old new : FunctionBindgen) (i : Instruction) (n : Bytes) (e : Expr) (ok : is_operand e ≡ true) (fresh : Fresh old new n) (one : TakesOne old.scope (codes "l") n new.scope) where
   pub whole_load_row : (q : ArchitectureSize × WasmType) → whole_load i ≡ Some q → Appends old new (stmt.Let n (expr.Load e q.0 q.1) ∷ []) [] → Emits func_meaning types i (operand_of e ∷ []) (operand_of (expr.Local n) ∷ []) old new

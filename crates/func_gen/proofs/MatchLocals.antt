@@ -1,8 +1,8 @@
 -- What a match gives gets names: new locals denote these data.
-use Rattle.std.proofs.Common.{◌≡◌, ◌+◌, ◌++◌, ◌&&◌, ℕ, suc, Bool, true, false, cond, not, List, [], ◌∷◌, length, map, Option, None, Some, refl, sym, ap, ◌∙◌, subst, arith, append-nil, append_assoc}
+use Rattle.std.proofs.Common.{◌≡◌, ◌+◌, ◌++◌, ℕ, suc, Bool, true, false, cond, List, [], ◌∷◌, length, map, Option, None, Some, refl, sym, ap, ◌∙◌, subst, arith, append-nil, append_assoc}
 use Rattle.std.specs.Prelude.{option_and_then, option_map, option_to_list}
 use Rattle.std.specs.List.{flat_map}
-use Rattle.std.proofs.lemmas.Bool.{and_parts, or_parts}
+use Rattle.std.proofs.lemmas.Bool.{or_parts}
 use Rattle.std.proofs.lemmas.Grind.{flat_map-append}
 use Rattle.std.proofs.lemmas.List.Folds.{list_any-append}
 use Rattle.std.specs.Option.{option_or}
@@ -11,6 +11,7 @@ use Rattle.wit_model.specs.Bytes.{Bytes}
 use Rattle.rust_tree.specs.declared.expr.Expr.TheVariants as expr
 use Rattle.rust_tree.specs.declared.item.Item.{Item}
 use Rattle.wrapper_data.specs.declared.value.RustValue.{RustValue}
+use Rattle.wrapper_data.specs.declared.word.Word.{Word}
 use Rattle.wrapper_meaning.specs.Items.{total}
 use Rattle.wrapper_meaning.proofs.PostReturn.{total-append}
 use Rattle.wrapper_values.specs.declared.state.Local.{Local}
@@ -25,6 +26,7 @@ use Rattle.wrapper_values.specs.Owning.{owned, owned_in}
 use Rattle.wrapper_values.specs.Setting.{Setting}
 use Rattle.wrapper_run.specs.Run.{bound}
 use Rattle.wrapper_run.proofs.LocalLemmas.{last-append}
+use Rattle.abi_bindgen.specs.Arms.{gives_words}
 use Rattle.abi_bindgen.specs.Blocks.{owned_datum}
 use Rattle.abi_bindgen.specs.Laws.{Data, ofs}
 use Rattle.abi_bindgen.specs.Meaning.{Datum, Fact, item, of, word}
@@ -33,11 +35,10 @@ use Rattle.func_gen.specs.declared.operand.ExprOperand.{ExprOperand}
 use Rattle.func_gen.specs.Facts.{Hold, val_of}
 use Rattle.func_gen.specs.Finished.{data_of, datum_of}
 use Rattle.func_gen.specs.Forms.{operand_of}
-use Rattle.func_gen.specs.MatchForms.{are_plain, match_names}
+use Rattle.func_gen.specs.MatchForms.{match_names}
 use Rattle.func_gen.specs.Meaning.{func_meaning, owns_of}
-use Rattle.func_gen.specs.Operand.{is_operand}
 use Rattle.func_gen.specs.PartForms.{locals_of}
-use Rattle.func_gen.specs.Read.{Under, env_of}
+use Rattle.func_gen.specs.Read.{Under, env_of, item_of}
 use Rattle.func_gen.specs.Scope.{is_used}
 use Rattle.func_gen.specs.Slot.{Slot}
 use Rattle.func_gen.proofs.Lasting.{bound_under, part, with_local}
@@ -49,30 +50,33 @@ use Rattle.func_gen.proofs.Several.{add_local}
 abbrev pub vals_of : Data func_meaning → List Val
 vals_of ds = map val_of ds
 
-plain_datum : (kept : Bool) (v : Val) (d : Datum RustValue) → not kept ≡ true → datum_of kept v ≡ Some d → v ≡ val_of d
-plain_datum true v d plain h = absurd cc
-plain_datum false (val.Word x) d plain h = let is : word x ≡ d = cc in ap val_of is
-plain_datum false (val.Value r) d plain h = let is : item r ≡ d = cc in ap val_of is
-plain_datum false (val.Area a n) d plain h = absurd cc
-
--- of operands that are no kept words the values are the data
-pub plain_data : (os : List ExprOperand) (vs : List Val) (ds : Data func_meaning) → are_plain os ≡ true → data_of os vs ≡ Some ds → (vs ≡ vals_of ds) × (length ds ≡ length os)
-plain_data [] [] ds ok h = let is : (let none : Data func_meaning = [] in none) ≡ ds = cc in (ap vals_of is, ap length (sym is))
-plain_data [] (v ∷ vs) ds ok h = absurd cc
-plain_data (o ∷ os) [] ds ok h = absurd cc
-plain_data (o ∷ os) (v ∷ vs) ds ok h =
-    let two = and_parts (is_operand o.expr && not o.kept) (are_plain os) ok in
-    go (and_parts (is_operand o.expr) (not o.kept) two.0).1 (λ rest known. plain_data os vs rest two.1 known) (datum_of o.kept v) refl (data_of os vs) refl h
+word_datum : (kept : Bool) (v : Val) (x : Word) → datum_of kept v ≡ Some (word x) → v ≡ val.Word x
+word_datum false (val.Word y) x h = let is : (let d : Datum RustValue = word y in d) ≡ word x = cc in ap val_of is
+word_datum false (val.Value r) x h = absurd cc
+word_datum false (val.Area a n) x h = absurd cc
+word_datum true v x h = absurd (none_kept (item_of v) h)
   where
-    go : not o.kept ≡ true → ((rest : Data func_meaning) → data_of os vs ≡ Some rest → (vs ≡ vals_of rest) × (length rest ≡ length os)) → (one : Option (Datum RustValue)) → datum_of o.kept v ≡ one → (more : Option (Data func_meaning)) → data_of os vs ≡ more
+    none_kept : (o : Option RustValue) → option_map (λ r. item r) o ≡ Some (word x) → ⊥
+    none_kept None k = cc
+    none_kept (Some r) k = cc
+
+-- of operands that give words the values are the words: a word that is kept as a number is none
+pub words_data : (os : List ExprOperand) (vs : List Val) (ds : Data func_meaning) → gives_words func_meaning ds ≡ true → data_of os vs ≡ Some ds → (vs ≡ vals_of ds) × (length ds ≡ length os)
+words_data [] [] ds fit h = let is : (let none : Data func_meaning = [] in none) ≡ ds = cc in (ap vals_of is, ap length (sym is))
+words_data [] (v ∷ vs) ds fit h = absurd cc
+words_data (o ∷ os) [] ds fit h = absurd cc
+words_data (o ∷ os) (v ∷ vs) ds fit h = go (λ rest given known. words_data os vs rest given known) (datum_of o.kept v) refl (data_of os vs) refl h
+  where
+    go : ((rest : Data func_meaning) → gives_words func_meaning rest ≡ true → data_of os vs ≡ Some rest → (vs ≡ vals_of rest) × (length rest ≡ length os)) → (one : Option (Datum RustValue)) → datum_of o.kept v ≡ one → (more : Option (Data func_meaning)) → data_of os vs ≡ more
         → option_and_then (λ d. option_map (λ ds. d ∷ ds) more) one ≡ Some ds → (v ∷ vs ≡ vals_of ds) × (length ds ≡ length (o ∷ os))
-    go plain others None a more b k = absurd cc
-    go plain others (Some d) a None b k = absurd cc
-    go plain others (Some d) a (Some rest) b k =
-        let is : d ∷ rest ≡ ds = cc in
-        let first = plain_datum o.kept v d plain a in
-        let later = others rest b in
-        (ap (λ x. x ∷ vs) first ∙ ap (λ xs. val_of d ∷ xs) later.0 ∙ ap vals_of is, ap length (sym is) ∙ ap suc later.1)
+    go others None a more b k = absurd cc
+    go others (Some d) a None b k = absurd cc
+    go others (Some (item r)) a (Some rest) b k = absurd (let is : item r ∷ rest ≡ ds = cc in let no : false ≡ true = ap (gives_words func_meaning) is ∙ fit in cc)
+    go others (Some (word x)) a (Some rest) b k =
+        let is : word x ∷ rest ≡ ds = cc in
+        let first = word_datum o.kept v x a in
+        let later = others rest (ap (gives_words func_meaning) is ∙ fit) b in
+        (ap (λ y. y ∷ vs) first ∙ ap (λ xs. val.Word x ∷ xs) later.0 ∙ ap vals_of is, ap length (sym is) ∙ ap suc later.1)
 
 -- 2. They are bound
 

@@ -52,7 +52,7 @@ conversion_of false zero (first ∷ second ∷ third ∷ names) h = absurd cc
 conversion_of false (suc n) names h = absurd cc
 conversion_of true supers names h = absurd cc
 
-calls_conversion : (path : Path) → is_conversion path ≡ true → (name : Bytes) × (callee path ≡ of_runtime name)
+pub calls_conversion : (path : Path) → is_conversion path ≡ true → (name : Bytes) × (callee path ≡ of_runtime name)
 unfolding is_conversion callee
 calls_conversion path h = conversion_of path.lead path.supers path.names h
 
@@ -81,7 +81,7 @@ core_function_of false zero (first ∷ name ∷ []) h = number_function first na
 core_function_of true zero (first ∷ second ∷ third ∷ fourth ∷ []) h = (core_fn.NewSlot, ap (λ b. cond b (core_function core_fn.NewSlot) (case_callee (number_in_core (first ∷ second ∷ third ∷ fourth ∷ [])))) h)
 core_function_of lead supers names h = absurd (let e : false ≡ true = h in cc)
 
-calls_core_function : (path : Path) → is_core_function path ≡ true → (f : CoreFn) × (callee path ≡ core_function f)
+pub calls_core_function : (path : Path) → is_core_function path ≡ true → (f : CoreFn) × (callee path ≡ core_function f)
 unfolding is_core_function callee
 calls_core_function path h = core_function_of path.lead path.supers path.names h
 

@@ -41,14 +41,16 @@ use Rattle.func_gen.specs.declared.operand.ExprOperand.{ExprOperand}
 use Rattle.func_gen.specs.Added.{Appends}
 use Rattle.func_gen.specs.Forms.{conversion, is_kept, kept_operand, number_cast, operand_of, runtime_call, runtime_name, runtime_path}
 use Rattle.func_gen.specs.Meaning.{StandsAsItIs, account_of, func_meaning}
+use Rattle.func_gen.specs.PartForms.{exprs_of}
 use Rattle.func_gen.specs.Read.{Env, Read, as_item, converts, item_of_word, on_bare, read, read_operand}
 use Rattle.func_gen.specs.Read as reader
 use Rattle.func_gen.specs.ReadForms.{read-call, read-cast}
-use Rattle.func_gen.specs.FactLemmas.{Says}
+use Rattle.func_gen.specs.FactLemmas.{Says, item_rust, kept_item, operand_reads}
 use Rattle.func_gen.specs.Formed.{Formed}
 use Rattle.abi_bindgen.specs.Sent.{sends}
 use Rattle.func_gen.proofs.Emissions.{cast_emitted, conversion_emitted, kept_emitted}
 use Rattle.func_gen.proofs.Forming.{form_alone, form_one, lifts_plain, lowers_plain, still_blocks}
+use Rattle.func_gen.proofs.PlainOperands.{lifts_plainly, reads_plainly}
 use Rattle.func_gen.proofs.Rows.{none_adds, swaps, tests}
 use Rattle.wrapper_meaning.proofs.Lists.{some_or}
 use Rattle.func_gen.proofs.Scalars.{cast_word, conversion_to, converts_scalar, is_number, stands_scalar, taken_is, taken_word}
@@ -106,21 +108,33 @@ converted_by _ f e = absurd (let h = e in cc)
 
 -- the call of a conversion on what reads a scalar reads its word
 call_says : (items : List Item) (s : Scalar) (v : ScalarValue s) (f : RuntimeItem) (e : Expr) (env : Env) → conversion_to s ≡ Some f → runtime_item_named items (item_name f) ≡ Some f → IsScalar s v
-    → (read items e).at env ≡ Some (val.Value (rust_scalar s v)) → (read items (runtime_call f e)).at env ≡ Some (val.Word (passed_word s v))
+    → option_and_then rust_of ((read items e).at env) ≡ Some (rust_scalar s v) → (read items (runtime_call f e)).at env ≡ Some (val.Word (passed_word s v))
 call_says items s v f e env by found good h =
     let o = (read items e).at env in
     ap (λ (r : Read). r.at env) (read-call items (runtime_path f) (e ∷ [])) ∙ ap (λ c. option_and_then (on_bare (reader.conversion items c)) o) (calls_runtime f)
-    ∙ ap (λ q. option_and_then (on_bare (converts q)) o) (found ∙ sym by) ∙ converts_scalar s v f o by good (ap (option_and_then rust_of) h)
+    ∙ ap (λ q. option_and_then (on_bare (converts q)) o) (found ∙ sym by) ∙ converts_scalar s v f o by good h
 
-pub convert_row : (types : List TypeDef) (old new : FunctionBindgen) (i : Instruction) (f : RuntimeItem) (e : Expr) → conversion i ≡ Some f → Appends old new [] (f ∷ []) → new.scope ≡ old.scope
-    → Emits func_meaning types i (operand_of e ∷ []) (operand_of (runtime_call f e) ∷ []) old new
-convert_row types old new i f e is a scope =
+-- what an operand denotes is what it reads for the Rust side, whether a word is kept in it or not
+rust_read : (items : List Item) (o : ExprOperand) (env : Env) (r : RustValue) → (read_operand items o).at env ≡ Some (val.Value r) → option_and_then rust_of ((read items o.expr).at env) ≡ Some r
+rust_read items o env r h =
+    let (u, reads, is) = operand_reads items o env (val.Value r) h in
+    ap (option_and_then rust_of) reads ∙ item_rust u r (kept_item o.kept u r is)
+
+pub one_operand : (os : List ExprOperand) (e : Expr) → exprs_of os ≡ e ∷ [] → (kept : Bool) × (os ≡ record { expr = e; kept = kept } ∷ [])
+one_operand [] e h = absurd cc
+one_operand (o ∷ []) e h = let same : o.expr ≡ e = cc in (o.kept, ap (λ (x : Expr). record { expr = x; kept = o.kept } ∷ []) same)
+one_operand (o ∷ p ∷ os) e h = absurd cc
+
+pub convert_row : (types : List TypeDef) (old new : FunctionBindgen) (i : Instruction) (f : RuntimeItem) (e : Expr) (kept : Bool) → conversion i ≡ Some f → Appends old new [] (f ∷ []) → new.scope ≡ old.scope
+    → Emits func_meaning types i (record { expr = e; kept = kept } ∷ []) (operand_of (runtime_call f e) ∷ []) old new
+convert_row types old new i f e kept is a scope =
     let c = converted_by i f is in
-    emits_lowered types old new i c.scalar (operand_of e) (operand_of (runtime_call f e)) c.lowered (none_adds old new (f ∷ []) a scope) a.returned (form_alone (sends i) (lowers_plain i c.scalar c.lowered) (operand_of e ∷ []) old new (runtime_call f e) (f ∷ []) (conversion_emitted old i f e is) scope a)
+    let o : ExprOperand = record { expr = e; kept = kept } in
+    emits_lowered types old new i c.scalar o (operand_of (runtime_call f e)) c.lowered (none_adds old new (f ∷ []) a scope) a.returned (form_alone (sends i) (lowers_plain i c.scalar c.lowered) (o ∷ []) old new (runtime_call f e) (f ∷ []) (conversion_emitted old i f e is) scope a)
     (λ dir v r own good st. (
       st.0.1,
-      swaps old new (f ∷ []) a scope (of (operand_of e) (item r)) (of (operand_of (runtime_call f e)) (word (passed_word c.scalar v)))
-          (λ w found env h. call_says w.items c.scalar v f e env c.by found.0 good (h ∙ ap (λ q. Some (val.Value q)) st.0.0)),
+      swaps old new (f ∷ []) a scope (of o (item r)) (of (operand_of (runtime_call f e)) (word (passed_word c.scalar v)))
+          (λ w found env h. call_says w.items c.scalar v f e env c.by found.0 good (rust_read w.items o env r h ∙ ap (λ q. Some q) st.0.0)),
     ))
 
 -- 3. Numbers of words
@@ -207,6 +221,9 @@ cast_by U32FromI32 to e = casts_as U32FromI32 cast.U32 to e (record { scalar = S
 cast_by U64FromI64 to e = casts_as U64FromI64 cast.U64 to e (record { scalar = Scalar.u64; none = refl; lifted = refl; number = refl; casts = λ x h. let (z, is) = i64_word x h in (z, ap (λ y. integer_of (val.Word y)) is, ap (λ y. val.Value (taken_word Scalar.u64 y)) is) })
 cast_by _ to e = absurd (let h = e in cc)
 
+pub cast_plainly : (i : Instruction) (to : CastType) → number_cast i ≡ Some to → reads_plainly i ≡ true
+cast_plainly i to is = let c = cast_by i to is in lifts_plainly i c.scalar c.none c.lifted
+
 pub cast_says : (items : List Item) (e : Expr) (to : CastType) (x : Word) (z : ℤ) (env : Env) → integer_of (val.Word x) ≡ Some z → (read items e).at env ≡ Some (val.Word x) → (read items (expr.Cast e to)).at env ≡ Some (cast_integer to z)
 cast_says items e to x z env i h = ap (λ (r : Read). r.at env) (read-cast items e to) ∙ cast_word to z x ((read items e).at env) i h
 
@@ -249,6 +266,9 @@ kept_by S64FromI64 e = record { scalar = Scalar.s64; none = refl; lifted = refl;
 kept_by F32FromCoreF32 e = record { scalar = Scalar.f32; none = refl; lifted = refl; number = refl; keeps = λ x h. let (z, is) = f32_word x h in ap item_of_word is ∙ ap (λ y. Some (taken_word Scalar.f32 y)) (sym is) }
 kept_by F64FromCoreF64 e = record { scalar = Scalar.f64; none = refl; lifted = refl; number = refl; keeps = λ x h. let (z, is) = f64_word x h in ap item_of_word is ∙ ap (λ y. Some (taken_word Scalar.f64 y)) (sym is) }
 kept_by _ e = absurd (let h = e in cc)
+
+pub keep_plainly : (i : Instruction) → is_kept i ≡ true → reads_plainly i ≡ true
+keep_plainly i is = let c = kept_by i is in lifts_plainly i c.scalar c.none c.lifted
 
 pub keep_row : (types : List TypeDef) (old new : FunctionBindgen) (i : Instruction) (e : Expr) → is_kept i ≡ true → Appends old new [] [] → new.scope ≡ old.scope → Emits func_meaning types i (operand_of e ∷ []) (kept_operand e ∷ []) old new
 keep_row types old new i e is a scope =

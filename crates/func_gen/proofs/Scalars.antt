@@ -62,7 +62,7 @@ shown_level _ = None
 abbrev pub shown : RustValue → Option Scalar
 shown r = shown_level (out-RustValue r)
 
-shown_scalar : (s : Scalar) (v : ScalarValue s) → shown (rust_scalar s v) ≡ Some s
+pub shown_scalar : (s : Scalar) (v : ScalarValue s) → shown (rust_scalar s v) ≡ Some s
 shown_scalar Scalar.bool v = ap shown_level (out-bool v)
 shown_scalar Scalar.f32 v = ap shown_level (out-f32 v)
 shown_scalar Scalar.f64 v = ap shown_level (out-f64 v)

@@ -53,6 +53,7 @@ use Rattle.func_gen.proofs.Emissions.{small_store_emitted, whole_store_emitted}
 use Rattle.func_gen.proofs.Evaluated.{gives}
 use Rattle.func_gen.proofs.Forming.{form_effect, still_blocks, touches_plain}
 use Rattle.func_gen.proofs.MemoryTies.{by_blocks, byte_stored, f32_stored, f64_stored, half_stored, i32_stored, i64_stored, length_stored, pointer_stored, ranged_blocks, stored_low, stored_word}
+use Rattle.func_gen.proofs.PlainOperands.{reads_plainly, touches_plainly}
 use Rattle.func_gen.proofs.Quiet.{quiet_operand}
 use Rattle.func_gen.proofs.Writing.{Keeps, Writes, finish, finishes, one_adds, there_written, writes}
 
@@ -217,6 +218,12 @@ is_low_store : (i : Instruction) (o : ArchitectureSize) (ty : SmallType) → sma
 is_low_store (I32Store8 p) o ty e = subst (λ (q : ArchitectureSize × SmallType). IsLowStore (I32Store8 p) q.0 q.1) (some_same (p, small.U8) (o, ty) e) (record { part = low_byte; lowered = refl; lifted = refl; touched = refl; tie = byte_stored })
 is_low_store (I32Store16 p) o ty e = subst (λ (q : ArchitectureSize × SmallType). IsLowStore (I32Store16 p) q.0 q.1) (some_same (p, small.U16) (o, ty) e) (record { part = low_half; lowered = refl; lifted = refl; touched = refl; tie = half_stored })
 is_low_store _ o ty e = absurd (let h = e in cc)
+
+pub whole_store_plainly : (i : Instruction) (o : ArchitectureSize) (ty : WasmType) → whole_store i ≡ Some (o, ty) → reads_plainly i ≡ true
+whole_store_plainly i o ty e = let t = is_store i o ty e in touches_plainly i (stores whole ty o) t.lowered t.lifted t.touched
+
+pub small_store_plainly : (i : Instruction) (o : ArchitectureSize) (ty : SmallType) → small_store i ≡ Some (o, ty) → reads_plainly i ≡ true
+small_store_plainly i o ty e = let t = is_low_store i o ty e in touches_plainly i (stores t.part wasm.I32 o) t.lowered t.lifted t.touched
 
 module _ (types : List TypeDef) (old new : FunctionBindgen) (i : Instruction) (o : ArchitectureSize) (e at : Expr) (ok : is_operand e ≡ true) (ok_at : is_operand at ≡ true) (scope : new.scope ≡ old.scope) where
   pub whole_store_row : (ty : WasmType) → whole_store i ≡ Some (o, ty) → Appends old new (stmt.Store at o ty e ∷ []) [] → Emits func_meaning types i (operand_of e ∷ operand_of at ∷ []) [] old new

@@ -1,16 +1,14 @@
 -- The rows of texts that are lent or given away: three locals, and two words.
 use Rattle.std.proofs.Common.{◌≡◌, ℕ, ◌+◌, true, false, List, [], ◌∷◌, ◌++◌, length, map, reverse, Some, refl, sym, ap, ◌∙◌, subst, arith}
-use Rattle.std.specs.Prelude.{option_map}
 use Rattle.wit_model.specs.declared.types.TypeDef.{TypeDef}
 use Rattle.wit_model.specs.Bytes.{Bytes}
 use Rattle.rust_tree.specs.declared.expr.Expr.{Expr}
 use Rattle.rust_tree.specs.declared.expr.Expr.TheVariants as expr
 use Rattle.rust_tree.specs.declared.stmt.Stmt.TheVariants as stmt
 use Rattle.wrapper_data.specs.declared.block.Block.{Block}
-use Rattle.wrapper_data.specs.declared.value.RustValue.{RustValue, fold-RustValue}
+use Rattle.wrapper_data.specs.declared.value.RustValue.{RustValue}
 use Rattle.wrapper_data.specs.declared.value.RustValue.TheVariants as value
 use Rattle.wrapper_data.specs.declared.word.Word.TheVariants as core
-use Rattle.wrapper_meaning.specs.Direction.{give}
 use Rattle.wrapper_meaning.specs.Items.{total}
 use Rattle.wrapper_meaning.specs.Shape.Shape.{text}
 use Rattle.wrapper_values.specs.declared.state.State.{State}
@@ -37,19 +35,20 @@ use Rattle.func_gen.specs.Added.{Appends}
 use Rattle.func_gen.specs.CallForms.{FreshAll}
 use Rattle.func_gen.specs.Facts.{AreOwned, Hold}
 use Rattle.func_gen.specs.Forms.{operand_of}
-use Rattle.func_gen.specs.Meaning.{account_of, call_of, func_meaning, owns_of, passing_level, seen, setting_for}
+use Rattle.func_gen.specs.Meaning.{account_of, call_of, func_meaning, owns_of, seen, setting_for}
 use Rattle.func_gen.specs.Operand.{is_operand}
 use Rattle.func_gen.specs.Read.{env_of}
 use Rattle.func_gen.specs.StandLemmas.{lent_alone, taken_on, taken_owns}
 use Rattle.func_gen.specs.TextForms.{buffer_names, buffer_stmts, buffer_words, forgotten, given_stmts, len_name, ptr_name, vec_name}
 use Rattle.func_gen.specs.Scope.{Takes}
-use Rattle.func_gen.specs.CodeOf.{hands_text, lends_text}
+use Rattle.func_gen.specs.CodeOf.{gives_text, hands_text, lends_text}
 use Rattle.func_gen.specs.Slot.{Slot}
-use Rattle.func_gen.proofs.Buffers.{buffer_facts, buffer_holds, buffer_runs, buffer_under, buffer_val, normal_buffer, owns_buffer, ptr_len, quiet_buffer, uses_buffer, vec_len, vec_ptr, with_buffer}
+use Rattle.func_gen.proofs.Buffers.{buffer_facts, buffer_holds, buffer_runs, buffer_under, buffer_val, owns_buffer, ptr_len, quiet_buffer, uses_buffer, vec_len, vec_ptr, with_buffer}
 use Rattle.func_gen.proofs.Declared.{Three, hold_as, three, three_used, unused_before, with_three}
 use Rattle.func_gen.proofs.Emissions.{local_is}
 use Rattle.func_gen.proofs.Forgetting.{Releases, forget_runs, quiet_forgotten, releases, with_taken}
 use Rattle.func_gen.proofs.Forming.{form_by}
+use Rattle.func_gen.proofs.GivenTexts.{given_text}
 use Rattle.func_gen.proofs.Lasting.{area_same, part}
 use Rattle.func_gen.proofs.PartRows.{areas_last}
 use Rattle.func_gen.proofs.Quiet.{quiet_operand}
@@ -210,12 +209,12 @@ module _ (types : List TypeDef) (old new : FunctionBindgen) (name : Bytes) (t : 
     blocks = ap reverse a.finished;
     returned = a.returned;
     asked = a.asked;
-    form = form_by (sends (StringLower true)) (record { gives = refl; calls = refl }) (operand_of (expr.Local name) ∷ []) old new (buffer_words t) (hands_text name) t (ap (option_map hands_text) (local_is name)) takes a refl;
+    form = form_by (sends (StringLower true)) (record { gives = refl; calls = refl }) (operand_of (expr.Local name) ∷ []) old new (buffer_words t) (hands_text name) t (ap (λ o. Some (gives_text (expr.Local name) o)) (local_is name)) takes a refl;
     results = refl;
     row = λ heap bytes r own st.
         let b = st.0 in
         let n = length bytes in
-        let is : r ≡ value.Buffer b.address n true = sym st.1 ∙ ap (fold-RustValue RustValue (passing_level give)) b.is ∙ normal_buffer b.address n b.owned in
+        let is = given_text bytes r own st in
         let gone : owned (buffer_val b.address n true) ≡ addresses own = ap owned_by (sym is) ∙ taken_owns text bytes r own (taken_on text bytes r own st.0) in (
           core.Pointer b.address ∷ core.Length n ∷ [],
           record { address = b.address; pair = refl; range = b.range; buffer = b.buffer },

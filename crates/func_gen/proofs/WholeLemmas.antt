@@ -1,40 +1,50 @@
--- Blocks are opened and closed, and no method is called in one.
-use Rattle.std.proofs.Common.{◌≡◌, List, [], ◌∷◌, ◌++◌, length, reverse, Option, None, refl, sym, ap, ◌∙◌, subst}
+-- Blocks are opened and closed, and each has code that it may have.
+use Rattle.std.proofs.Common.{◌≡◌, true, List, [], ◌∷◌, ◌++◌, length, reverse, None, refl, sym, ap, ◌∙◌, subst}
 use Rattle.std.proofs.lemmas.List.{length-map, length-reverse}
-use Rattle.rust_tree.specs.declared.export.CallBlock.{CallBlock}
+use Rattle.rust_tree.specs.declared.stmt.Stmt.{Stmt}
+use Rattle.func_gen.specs.declared.function_bindgen.Code.{Code}
 use Rattle.func_gen.specs.declared.function_bindgen.OpenBlock.{OpenBlock}
+use Rattle.func_gen.specs.InwardCode.{are_inward_stmts}
 use Rattle.func_gen.specs.Opened.{open_block, open_blocks}
-use Rattle.func_gen.specs.Whole.{AreUncalledIn}
+use Rattle.func_gen.specs.Whole.{HaveBlockCode, IsBlockCode}
+use Rattle.func_gen.proofs.InwardForms.{inward_both}
 
--- where a block is open, the innermost one calls nothing
-pub last_uncalled : (before : List OpenBlock) (o : OpenBlock) (call : Option CallBlock) → AreUncalledIn (before ++ o ∷ []) call → call ≡ None
-last_uncalled [] o call h = h
-last_uncalled (p ∷ []) o call h = last_uncalled [] o call h.1
-last_uncalled (p ∷ q ∷ before) o call h = last_uncalled (q ∷ before) o call h.1
+pub no_code : IsBlockCode (record { call = None; stmts = [] })
+no_code = record { uncalled = refl; inward = refl }
 
--- once it is closed, those around it call nothing still
-pub closed_uncalled : (before : List OpenBlock) (o : OpenBlock) (call : Option CallBlock) → AreUncalledIn (before ++ o ∷ []) call → AreUncalledIn before o.code.call
-closed_uncalled [] o call h = tt
-closed_uncalled (p ∷ []) o call h = h.0
-closed_uncalled (p ∷ q ∷ before) o call h = (h.0, closed_uncalled (q ∷ before) o call h.1)
+-- where a block is open, the innermost one has such code
+last_block : (before : List OpenBlock) (o : OpenBlock) (code : Code) → HaveBlockCode (before ++ o ∷ []) code → IsBlockCode code
+last_block [] o code h = h
+last_block (p ∷ []) o code h = last_block [] o code h.1
+last_block (p ∷ q ∷ before) o code h = last_block (q ∷ before) o code h.1
 
--- one more is opened, whose code is empty; it suspends code of this call
-pub opened_uncalled : (before : List OpenBlock) (o : OpenBlock) → AreUncalledIn before o.code.call → AreUncalledIn (before ++ o ∷ []) None
-opened_uncalled [] o h = refl
-opened_uncalled (p ∷ []) o h = (h, refl)
-opened_uncalled (p ∷ q ∷ before) o h = (h.0, opened_uncalled (q ∷ before) o h.1)
+-- once it is closed, those around it have
+closed_blocks : (before : List OpenBlock) (o : OpenBlock) (code : Code) → HaveBlockCode (before ++ o ∷ []) code → HaveBlockCode before o.code
+closed_blocks [] o code h = tt
+closed_blocks (p ∷ []) o code h = h.0
+closed_blocks (p ∷ q ∷ before) o code h = (h.0, closed_blocks (q ∷ before) o code h.1)
 
-pub innermost_uncalled : (opened before : List OpenBlock) (o : OpenBlock) (call : Option CallBlock) → opened ≡ before ++ o ∷ [] → AreUncalledIn opened call → call ≡ None
-innermost_uncalled opened before o call is h = last_uncalled before o call (subst (λ os. AreUncalledIn os call) is h)
+-- one more is opened, with such code; it suspends this code
+pub opened_blocks : (before : List OpenBlock) (o : OpenBlock) (code : Code) → HaveBlockCode before o.code → IsBlockCode code → HaveBlockCode (before ++ o ∷ []) code
+opened_blocks [] o code h k = k
+opened_blocks (p ∷ []) o code h k = (h, k)
+opened_blocks (p ∷ q ∷ before) o code h k = (h.0, opened_blocks (q ∷ before) o code h.1 k)
 
-pub around_uncalled : (opened before : List OpenBlock) (o : OpenBlock) (call : Option CallBlock) → opened ≡ before ++ o ∷ [] → AreUncalledIn opened call → AreUncalledIn before o.code.call
-around_uncalled opened before o call is h = closed_uncalled before o call (subst (λ os. AreUncalledIn os call) is h)
+pub innermost_block : (opened before : List OpenBlock) (o : OpenBlock) (code : Code) → opened ≡ before ++ o ∷ [] → HaveBlockCode opened code → IsBlockCode code
+innermost_block opened before o code is h = last_block before o code (subst (λ os. HaveBlockCode os code) is h)
 
--- what calls nothing may be emptied
-pub emptied_uncalled : (opened : List OpenBlock) (call : Option CallBlock) → AreUncalledIn opened call → AreUncalledIn opened None
-emptied_uncalled [] call h = tt
-emptied_uncalled (o ∷ []) call h = refl
-emptied_uncalled (o ∷ p ∷ opened) call h = (h.0, emptied_uncalled (p ∷ opened) call h.1)
+pub around_blocks : (opened before : List OpenBlock) (o : OpenBlock) (code : Code) → opened ≡ before ++ o ∷ [] → HaveBlockCode opened code → HaveBlockCode before o.code
+around_blocks opened before o code is h = closed_blocks before o code (subst (λ os. HaveBlockCode os code) is h)
+
+-- the innermost one may have other such code
+pub other_blocks : (opened : List OpenBlock) (code other : Code) → HaveBlockCode opened code → (IsBlockCode code → IsBlockCode other) → HaveBlockCode opened other
+other_blocks [] code other h k = tt
+other_blocks (o ∷ []) code other h k = k h
+other_blocks (o ∷ p ∷ opened) code other h k = (h.0, other_blocks (p ∷ opened) code other h.1 k)
+
+-- inward statements may be added
+pub added_blocks : (opened : List OpenBlock) (code : Code) (added : List Stmt) → are_inward_stmts added ≡ true → HaveBlockCode opened code → HaveBlockCode opened (record code { stmts = code.stmts ++ added })
+added_blocks opened code added inward h = other_blocks opened code _ h (λ k. record { uncalled = k.uncalled; inward = inward_both code.stmts added k.inward inward })
 
 -- as many as are told
 opened_many : (opened : List OpenBlock) → length (open_blocks opened) ≡ length opened

@@ -50,6 +50,11 @@ lends_text e t = record { names = buffer_names t; stmts = buffer_stmts t e; resu
 abbrev pub hands_text : Bytes → ℕ → Emission
 hands_text name t = record { names = buffer_names t; stmts = given_stmts t name; results = expr.CastMut (ptr_name t) ∷ expr.Local (len_name t) ∷ []; items = [] }
 
+-- only a local denotes a text that may be given away: any other operand is lent
+abbrev pub gives_text : Expr → Option Bytes → ℕ → Emission
+gives_text e None = lends_text e
+gives_text e (Some name) = hands_text name
+
 abbrev pub takes_text : (address n : Expr) → ℕ → Emission
 takes_text address n t = record { names = taken_names t; stmts = taken_stmts t address n; results = expr.Local (text_name t) ∷ []; items = taking_items }
 
@@ -136,7 +141,7 @@ emitted b (sends (FlagsLift id)) es = option_map (lifts_flags es) (flags_at b.si
 emitted b (sends (TupleLower n)) (a ∷ []) = Some (splits_tuple n a)
 emitted b (sends (TupleLift n)) es = Some (one_local (codes "tuple") (expr.Tuple es) [])
 emitted b (sends (StringLower false)) (a ∷ []) = Some (lends_text a)
-emitted b (sends (StringLower true)) (a ∷ []) = option_map hands_text (local_of a)
+emitted b (sends (StringLower true)) (a ∷ []) = Some (gives_text a (local_of a))
 emitted b (sends StringLift) (a ∷ n ∷ []) = Some (takes_text a n)
 emitted b (sends (Flush n)) es = Some (flushes n es)
 emitted b (sends (Return n)) es = Some (λ t. nothing)

@@ -20,7 +20,7 @@ pub mod FlushForms
 pub mod Formed
 pub mod Forms
 pub mod FuncSound
-pub mod InwardTests
+pub mod InwardCode
 pub mod LiftedCases
 pub mod Made
 pub mod MatchForms

@@ -85,7 +85,7 @@ module _ (two : Direction) (counts : Bool → Bool) (Fit : List Block → Type 0
     replaced (pairs k x) bare vs r own fit (rs, is, h) =
         let no_handle = or_parts (has_handle counts k) (has_handle counts x) bare in
         let others = each (passing_entry two) (EntryStands (Stands 2 take k) (Stands 2 take x)) (EntryStands (Stands 2 two k) (Stands 2 two x))
-            (entry (Stands 2 take k) (Stands 2 two k) (Stands 2 take x) (Stands 2 two x) (replaced k no_handle.0) (replaced x no_handle.1)) vs rs own fit h in
+        (entry (Stands 2 take k) (Stands 2 two k) (Stands 2 take x) (Stands 2 two x) (replaced k no_handle.0) (replaced x no_handle.1)) vs rs own fit h in
         (value.Map others.0, (others.0, refl, others.1), normal_map two others.0 others.2)
     replaced (fixed t n) bare vs r own fit (rs, is, h) =
         let others = each (passing two) (Stands 2 take t) (Stands 2 two t) (replaced t bare) vs rs own fit h in
@@ -148,9 +148,11 @@ normal_handle n own = ap (passing take) (sym (rolls-Handle n own)) ∙ fold-roll
 -- an owner's buffer has the flag that says so, also where it is empty
 owning : (n : ℕ) (e : Extent) (c d : Contents) (r : RustValue) (own : List Block) → ((b : Block) (k : ℕ) (inner : List Block) → c b k inner → (inner ≡ []) × d b k []) → Unit {0} → StandsAsBuffer 2 take n e c r own
     → (q : RustValue) × StandsAsBuffer 2 take n e d q own × IsNormal take q
-owning n e c d r own alike fit h =
-    (value.Buffer h.address n true, record { address = h.address; nonzero = h.nonzero; range = h.range; owned = true; flag = flag n; is = refl; buffer = record { aligned = h.buffer.aligned; bounded = h.buffer.bounded; placed = placed n h.buffer.placed } },
-    ap (passing take) (sym (rolls-Buffer h.address n true)) ∙ fold-roll-RustValue RustValue (passing_level take) (RustValue-F.Buffer h.address n true))
+owning n e c d r own alike fit h = (
+  value.Buffer h.address n true,
+  record { address = h.address; nonzero = h.nonzero; range = h.range; owned = true; flag = flag n; is = refl; buffer = record { aligned = h.buffer.aligned; bounded = h.buffer.bounded; placed = placed n h.buffer.placed } },
+  ap (passing take) (sym (rolls-Buffer h.address n true)) ∙ fold-roll-RustValue RustValue (passing_level take) (RustValue-F.Buffer h.address n true),
+)
   where
     flag : (k : ℕ) → IsFlag take k true
     flag zero = tt
@@ -173,9 +175,11 @@ owned_item t v r own h =
 -- behind a reference a buffer owns nothing, and its block lies in the heap
 lending : (heap : List Block) (n : ℕ) (e : Extent) (c d : Contents) (r : RustValue) (own : List Block) → ((b : Block) (k : ℕ) (inner : List Block) → c b k inner → (inner ≡ []) × d b k []) → AllIn heap own → StandsAsBuffer 2 take n e c r own
     → (q : RustValue) × StandsAsBuffer 2 (lend heap) n e d q [] × IsNormal (lend heap) q
-lending heap n e c d r own alike fit h =
-    (value.Buffer h.address n false, record { address = h.address; nonzero = h.nonzero; range = h.range; owned = false; flag = refl; is = refl; buffer = record { aligned = h.buffer.aligned; bounded = h.buffer.bounded; placed = placed n h.buffer.placed } },
-    ap (passing (lend heap)) (sym (rolls-Buffer h.address n false)) ∙ fold-roll-RustValue RustValue (passing_level (lend heap)) (RustValue-F.Buffer h.address n false))
+lending heap n e c d r own alike fit h = (
+  value.Buffer h.address n false,
+  record { address = h.address; nonzero = h.nonzero; range = h.range; owned = false; flag = refl; is = refl; buffer = record { aligned = h.buffer.aligned; bounded = h.buffer.bounded; placed = placed n h.buffer.placed } },
+  ap (passing (lend heap)) (sym (rolls-Buffer h.address n false)) ∙ fold-roll-RustValue RustValue (passing_level (lend heap)) (RustValue-F.Buffer h.address n false),
+)
   where
     placed : (k : ℕ) → IsPlaced take true h.address k e.bytes c own → IsPlaced (lend heap) true h.address k e.bytes d []
     placed zero p = (tt, refl)

@@ -1,10 +1,11 @@
 //! Statements are added, and items of `_rt` are named.
 
-ghost use Rattle.std.specs.Prelude.{◌≡◌, [], ◌∷◌, true, length, IfOk, OnOk};
+ghost use Rattle.std.specs.Prelude.{◌≡◌, ◌++◌, [], ◌∷◌, true, length, IfOk, OnErr, OnOk};
 ghost use Rattle.rust_tree.specs.declared.stmt.Stmt.TheVariants as stmt;
+ghost use Rattle.wrapper_run.specs.Inward.{is_inward_expr};
 ghost use Rattle.func_gen.specs.Added.{Appends, Fresh};
-ghost use Rattle.func_gen.specs.Forms.{operand_of};
 ghost use Rattle.func_gen.specs.Operand.{is_operand};
+ghost use Rattle.func_gen.specs.PartForms.{exprs_of};
 ghost use Rattle.func_gen.specs.Scope.{TakesOne};
 
 use crate::function_bindgen::FunctionBindgen;
@@ -14,34 +15,40 @@ use rust_tree::{Expr, RuntimeItem, Stmt};
 use std::alloc::Global;
 use wit_model::{List, OutOfMemory, Text};
 
-/// The expression of an operand. Of a word that is kept as a number there is no memory.
-pub(crate) fn operand_expr(operand: &ExprOperand) -> Result<&Expr, OutOfMemory>
-    ensures same { IfOk result (λ e. operand.now ≡ operand_of e.now) }
-    ensures operand { IfOk result (λ e. is_operand e.now ≡ true) }
-{
-    if operand.kept {
-        return Err(OutOfMemory);
-    }
-    Ok(&operand.expr)
-}
-
-/// That of the one operand, on the same terms.
-pub(crate) fn only_expr(operands: &List<ExprOperand>) -> Result<&Expr, OutOfMemory>
+/// The expression of the one operand.
+pub(crate) fn only_expr(operands: &List<ExprOperand>) -> &Expr
     requires one { length operands.now ≡ 1 }
-    ensures only { IfOk result (λ e. operands.now ≡ operand_of e.now ∷ []) }
-    ensures operand { IfOk result (λ e. is_operand e.now ≡ true) }
+    ensures only { exprs_of operands.now ≡ result.now ∷ [] }
+    ensures operand { is_operand result.now ≡ true }
 {
-    operand_expr(&operands.as_slice()[0])
+    let operand = &operands.as_slice()[0];
+    &operand.expr
 }
 
 /// The same, copied.
 pub(crate) fn only_operand(alloc: Global, operands: &List<ExprOperand>) -> Result<Expr, OutOfMemory>
     requires one { length operands.now ≡ 1 }
-    ensures only { IfOk result (λ e. operands.now ≡ operand_of e ∷ []) }
+    ensures only { IfOk result (λ e. exprs_of operands.now ≡ e ∷ []) }
     ensures operand { IfOk result (λ e. is_operand e ≡ true) }
 {
-    let e = only_expr(operands)?;
-    copy_expr(e, alloc)
+    copy_expr(only_expr(operands), alloc)
+}
+
+/// Statements are put behind others. Where there is no memory these stay as they were.
+pub(crate) fn append(
+    alloc: Global,
+    stmts: &mut List<Stmt>,
+    added: List<Stmt>,
+) -> Result<(), OutOfMemory>
+    ensures ok { OnOk result (stmts.new ≡ stmts.old ++ added) }
+    ensures err { OnErr result (stmts.new ≡ stmts.old) }
+{
+    let mut all = std::mem::replace(stmts, List::new(alloc)).into_vec();
+    let mut added = added.into_vec();
+    let done = all.append(&mut added);
+    *stmts = List::from_vec(all);
+    done?;
+    Ok(())
 }
 
 impl FunctionBindgen {
@@ -69,12 +76,34 @@ impl FunctionBindgen {
 
     /// The name of a new local, with this value.
     pub(crate) fn add_let(&mut self, prefix: &str, e: Expr) -> Result<Text, OutOfMemory>
+        requires inward { is_inward_expr e ≡ true }
         ensures adds { IfOk result (λ name. Appends self.old self.new (stmt.Let name e ∷ []) []) }
         ensures fresh { IfOk result (λ name. Fresh self.old self.new name) }
         ensures takes { IfOk result (λ name. TakesOne self.old.scope prefix.now name self.new.scope) }
     {
         let (name, declared) = self.new_local(prefix)?;
-        self.code.stmts.push(Stmt::Let(declared, e))?;
+        self.add_effect(Stmt::Let(declared, e))?;
+        Ok(name)
+    }
+
+    /// A statement that stands in no block: it may call an import, and take the address of the static area.
+    pub(crate) fn add_outside(&mut self, s: Stmt) -> Result<(), OutOfMemory>
+        requires closed { self.old.opened ≡ [] }
+        ensures adds { OnOk result (Appends self.old self.new (s ∷ []) []) }
+        ensures scope { OnOk result (self.new.scope ≡ self.old.scope) }
+    {
+        self.code.stmts.push(s)
+    }
+
+    /// The name of a new local outside of blocks, with this value.
+    pub(crate) fn let_outside(&mut self, prefix: &str, e: Expr) -> Result<Text, OutOfMemory>
+        requires closed { self.old.opened ≡ [] }
+        ensures adds { IfOk result (λ name. Appends self.old self.new (stmt.Let name e ∷ []) []) }
+        ensures fresh { IfOk result (λ name. Fresh self.old self.new name) }
+        ensures takes { IfOk result (λ name. TakesOne self.old.scope prefix.now name self.new.scope) }
+    {
+        let (name, declared) = self.new_local(prefix)?;
+        self.add_outside(Stmt::Let(declared, e))?;
         Ok(name)
     }
 }

@@ -1,6 +1,6 @@
 //! The return area is asked for, and its address is taken.
 
-ghost use Rattle.std.specs.Prelude.{◌≡◌, ◌<◌, ◌^◌, IfOk};
+ghost use Rattle.std.specs.Prelude.{◌≡◌, ◌<◌, ◌^◌, [], IfOk};
 ghost use Rattle.wit_model.specs.Size.{bytes_at};
 ghost use Rattle.abi_bindgen.specs.Area.{IsAlignment};
 ghost use Rattle.abi_bindgen.specs.Laws.{PointsTo};
@@ -27,12 +27,13 @@ impl FunctionBindgen {
 
     /// A new local of the address of the area, which has room for one more record.
     pub(crate) fn point(&mut self, room: Asked) -> Result<ExprOperand, OutOfMemory>
+        requires closed { self.old.opened ≡ [] }
         requires small { bytes_at room.size 8 < 2 ^ 31 }
         requires aligned { IsAlignment room.align }
         ensures { IfOk result (λ o. PointsTo func_meaning room o self.old self.new) }
     {
         let pointer = self.area_pointer()?;
-        let name = self.add_let("ptr", pointer)?;
+        let name = self.let_outside("ptr", pointer)?;
         self.asked.push(room)?;
         let expr = Expr::Local(name);
         Ok(ExprOperand { expr, kept: false })

@@ -3,6 +3,7 @@
 ghost use Rattle.std.specs.Prelude.{◌≡◌, ◌<◌, ◌≤◌, ◌∷◌, ◌++◌, length, reverse, IfOk};
 ghost use Rattle.std.specs.List.{AllByRecursion};
 ghost use Rattle.func_gen.specs.declared.function_bindgen.FinishedBlock.{FinishedBlock};
+ghost use Rattle.func_gen.specs.InwardCode.{IsInwardBlock};
 ghost use Rattle.func_gen.specs.Scope.{Keeps};
 ghost use Rattle.func_gen.specs.Uses.{Uses};
 
@@ -42,11 +43,12 @@ pub(crate) fn parted(blocks: List<FinishedBlock>) -> (FinishedBlock, List<Finish
 
 impl FunctionBindgen {
     /// So many blocks that were finished last, the last one first, which are kept no more. The names that were used when they were opened
-    /// are used still.
+    /// are used still, and their code is inward.
     pub(crate) fn use_blocks(&mut self, count: usize) -> Result<List<FinishedBlock>, OutOfMemory>
         requires there { count ≤ length self.old.finished }
         ensures uses { IfOk result (λ blocks. Uses blocks count self.old self.new) }
         ensures names { IfOk result (λ blocks. AllByRecursion (λ (b : FinishedBlock). Keeps b.names self.old.scope.used) blocks) }
+        ensures inward { IfOk result (AllByRecursion IsInwardBlock) }
     {
         let mut finished = std::mem::replace(&mut self.finished, List::new(self.alloc)).into_vec();
         let blocks = last_blocks(self.alloc, &mut finished, count)?;

@@ -106,7 +106,7 @@ impl Model for FunctionBindgen {
 
     ghost use Rattle.func_gen.specs.Whole.{IsWhole};
 
-    ghost invariant = { λ b. IsWhole b.opened b.code.call b.asked b.scope.used b.finished };
+    ghost invariant = { λ b. IsWhole b.opened b.code b.asked b.scope.used b.finished };
 }
 
 /// The names that are used at first.

@@ -35,7 +35,7 @@ not_below params base one other h g l = not_both (is_used params one) (ap (is_us
 numbered_same : (params : List Bytes) (base one other : Bytes) → IsNumbered params base one → IsNumbered params base other → other ≡ one
 numbered_same params base one other h g =
     let number : g.number ≡ h.number = ⊎_elim (λ l. absurd (not_below params base one other h g l))
-        (λ k. ⊎_elim (λ l. absurd (not_below params base other one g h l)) (λ n. omega (arith, k, n)) (cases_lt g.number h.number)) (cases_lt h.number g.number) in
+    (λ k. ⊎_elim (λ l. absurd (not_below params base other one g h l)) (λ n. omega (arith, k, n)) (cases_lt g.number h.number)) (cases_lt h.number g.number) in
     g.is ∙ ap (fixed base) number ∙ sym h.is
 
 fixed_same : (params : List Bytes) (base one other : Bytes) → IsFixedName params base one → IsFixedName params base other → other ≡ one

@@ -18,9 +18,7 @@ use Rattle.abi_bindgen.specs.Laws.{AreLent, item_data}
 use Rattle.abi_bindgen.specs.Parts.{PartsStand}
 use Rattle.func_gen.specs.Meaning.{IsNormal, StandsAsItIs, func_meaning, passing_level}
 use Rattle.func_gen.specs.StandLemmas.{lent_alone}
-use Rattle.func_gen.proofs.PartRows.{normal_struct}
-use Rattle.func_gen.proofs.Normals.{normal_bits, normal_case, normal_unit, passing}
-use Rattle.func_gen.proofs.Scalars.{scalar_normal}
+use Rattle.func_gen.specs.NormalLemmas.{normal_bits, normal_case, normal_struct, normal_unit, passing, scalar_normal}
 use Rattle.wrapper_closing.specs.Direct.{are_direct, is_direct}
 use Rattle.wrapper_closing.proofs.Direct.{no_own_handle}
 

@@ -19,7 +19,7 @@ use Rattle.wrapper_meaning.specs.Shape.Shapes.{more, none}
 use Rattle.wrapper_values.specs.declared.state.Val.TheVariants as val
 use Rattle.wrapper_values.specs.Effect.{answer_of}
 use Rattle.wrapper_values.specs.Typed.{answer_in, typed, unaliased}
-use Rattle.func_gen.proofs.Normals.{normal_unit, passing_case}
+use Rattle.func_gen.specs.NormalLemmas.{normal_unit, passing_case}
 use Rattle.wrapper_closing.specs.ClosedImport.{AnswersAs}
 use Rattle.wrapper_closing.specs.PrintedAs.{ArePrintedCases, HavePayloads, IsPrintedAs}
 use Rattle.wrapper_closing.proofs.PrintedAnswers.{printed_results_answer}

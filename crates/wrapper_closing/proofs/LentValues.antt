@@ -19,8 +19,7 @@ use Rattle.wrapper_meaning.specs.Value.{Case, Parts, Value, case_number}
 use Rattle.wrapper_values.specs.Owning.{lent_level, lent_value}
 use Rattle.wrapper_values.specs.Typed.{typed, typed_each, unaliased}
 use Rattle.wrapper_run.proofs.TakeLemmas.{answered-text}
-use Rattle.func_gen.proofs.Normals.{normal_bits, normal_unit, passing_case}
-use Rattle.func_gen.proofs.Scalars.{scalar_normal}
+use Rattle.func_gen.specs.NormalLemmas.{normal_bits, normal_unit, passing_case, scalar_normal}
 use Rattle.wrapper_closing.specs.PrintedAs.{ArePrintedAs, ArePrintedCases, HavePayloads, IsPrintedAs, scalar_type}
 use Rattle.wrapper_closing.proofs.OwningValues.{owning, owning_buffer, owning_struct}
 use Rattle.wrapper_closing.proofs.PrintedValues.{IsOfParts, buffer_leaf, by_flags, by_plain, one_later, record_parts, scalar_answered, scalar_leaf, tuple_parts, typed_struct}

@@ -16,9 +16,7 @@ use Rattle.wrapper_meaning.specs.Shape.Shapes.{more, none}
 use Rattle.wrapper_meaning.specs.StandsFor.{CaseStands, IsFlag, PartsStand, PayloadStands, Standing, Stands, rust_scalar}
 use Rattle.wrapper_meaning.specs.Value.{Case, Parts, ScalarValue, Value, case_number}
 use Rattle.func_gen.specs.Meaning.{IsNormal, passing_level}
-use Rattle.func_gen.proofs.Normals.{normal_bits, normal_case, normal_unit, passing_case}
-use Rattle.func_gen.proofs.PartRows.{normal_struct}
-use Rattle.func_gen.proofs.Scalars.{scalar_normal}
+use Rattle.func_gen.specs.NormalLemmas.{normal_bits, normal_case, normal_struct, normal_unit, passing_case, scalar_normal}
 use Rattle.wrapper_closing.specs.Direct.{are_direct, is_direct}
 
 -- 1. The value with the flags of an owner

@@ -32,8 +32,7 @@ use Rattle.wrapper_values.specs.Flags.{flags_in, repr_bits}
 use Rattle.wrapper_values.specs.Typed.{Typed, answer_in, definition_in, plain_as, typed, typed_each, typed_flags, typed_level, typed_parts, unaliased}
 use Rattle.wrapper_run.proofs.NumberLemmas.{answered-bool, answered-char, answered-f32-value, answered-f64-value, answered-number}
 use Rattle.wrapper_run.proofs.TakeLemmas.{answered-empty, answered-text}
-use Rattle.func_gen.proofs.Normals.{normal_bits}
-use Rattle.func_gen.proofs.Scalars.{scalar_normal}
+use Rattle.func_gen.specs.NormalLemmas.{normal_bits, scalar_normal}
 use Rattle.wrapper_closing.specs.PrintedAs.{ArePrintedAs, ArePrintedCases, HavePayloads, IsPrintedAs, scalar_type}
 use Rattle.wrapper_closing.proofs.OwningValues.{owning, owning_buffer, owning_struct}
 use Rattle.wrapper_closing.proofs.TypedCases.{FitsPlace, cases_unanswered, typed_roll, value_typed}

@@ -19,7 +19,7 @@ use Rattle.wrapper_meaning.specs.Direction.{take}
 use Rattle.wrapper_values.specs.declared.state.Val.{Val}
 use Rattle.wrapper_values.specs.Effect.{answer_as}
 use Rattle.wrapper_values.specs.Typed.{Typed, behind, behind_one, definition_in, target_in, typed, typed_absent, typed_bare, typed_by, typed_case, typed_defined, typed_level, typed_option, typed_payload, typed_result, typed_unit, typed_variant, unaliased}
-use Rattle.func_gen.proofs.Normals.{normal_unit, passing_case}
+use Rattle.func_gen.specs.NormalLemmas.{normal_unit, passing_case}
 use Rattle.wrapper_closing.specs.PrintedAs.{HavePayloads, IsSide, item_payloads}
 use Rattle.wrapper_closing.proofs.OwningValues.{owning}
 

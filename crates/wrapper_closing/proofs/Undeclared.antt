@@ -35,7 +35,7 @@ use Rattle.func_gen.specs.declared.enum_site.EnumSite.{EnumSite}
 use Rattle.func_gen.specs.declared.function_bindgen.FinishedBlock.{FinishedBlock}
 use Rattle.func_gen.specs.declared.function_bindgen.ParamSite.{ParamSite}
 use Rattle.func_gen.specs.CastForms.{cast_expr, cast_stmts, needs_slot, slot_prefix, stmts_from}
-use Rattle.func_gen.specs.CodeOf.{Context, emitted, hands_text, local_of, makes_record, splits_record}
+use Rattle.func_gen.specs.CodeOf.{Context, emitted, gives_text, local_of, makes_record, splits_record}
 use Rattle.func_gen.specs.Emission.{Emission, alone}
 use Rattle.func_gen.specs.EnumForms.{case_cast, case_let, enum_at, lifts_enum}
 use Rattle.func_gen.specs.FlagsForms.{flags_at, lifts_flags, lowers_flags}
@@ -223,6 +223,10 @@ module _ (what : Declaration) where
   enums_bare e None = tt
   enums_bare e (Some s) = enum_bare e s
 
+  gives_bare : (e : Expr) (o : Option Bytes) → IsBare (Some (gives_text e o))
+  gives_bare e None = λ t. three_lets _ _ _ _ _ _
+  gives_bare e (Some name) = λ t. declare_more [] _ _ (three_lets _ _ _ _ _ _) (expr_one _)
+
   pub told_bare : (b : Context) (step : Sent) (es : List Expr) → IsBare (emitted b step es)
   told_bare b (asks room) [] = λ t. let_one _ _
   told_bare b (sends (GetArg n)) [] = for_each (slice_get b.params n) (λ (p : ParamSite). λ t. alone p.operand.expr) (λ p t. no_stmts)
@@ -262,7 +266,7 @@ module _ (what : Declaration) where
   told_bare b (sends (TupleLower n)) (a ∷ []) = λ t. parts_one _ _
   told_bare b (sends (TupleLift n)) es = λ t. let_one _ _
   told_bare b (sends (StringLower false)) (a ∷ []) = λ t. three_lets _ _ _ _ _ _
-  told_bare b (sends (StringLower true)) (a ∷ []) = for_each (local_of a) hands_text (λ name t. declare_more [] _ _ (three_lets _ _ _ _ _ _) (expr_one _))
+  told_bare b (sends (StringLower true)) (a ∷ []) = gives_bare a (local_of a)
   told_bare b (sends StringLift) (a ∷ n ∷ []) = λ t. three_lets _ _ _ _ _ _
   told_bare b (sends (Flush n)) es = λ t. lets_bare (names_from flush_prefix t 0 n) es
   told_bare b (sends (Return n)) es = λ t. no_stmts

@@ -28,6 +28,7 @@ impl FunctionBindgen {
         results: &mut List<ExprOperand>,
     ) -> Result<(), OutOfMemory>
         requires imports { self.old.import ≡ true }
+        requires closed { self.old.opened ≡ [] }
         requires well { IsWellFormed resolve.now }
         requires within { function_in_range resolve.now func.now ≡ true }
         requires words { length operands.now ≡ length (import_params resolve.now.types func.now) }
@@ -58,6 +59,7 @@ impl FunctionBindgen {
         ty: WasmType,
         arguments: List<Expr>,
     ) -> Result<Text, OutOfMemory>
+        requires closed { self.old.opened ≡ [] }
         ensures { IfOk result (λ name. AddsCall func.now params ty arguments name self.old self.new) }
     {
         let import = LocalName {
@@ -74,7 +76,7 @@ impl FunctionBindgen {
         self.push_import(func, name, params, Some(ty))?;
         let answer = numbered(self.alloc, returned, t)?;
         let given = answer.copy(self.alloc)?;
-        self.add_effect(Stmt::Let(answer, Expr::Call(path, arguments)))?;
+        self.add_outside(Stmt::Let(answer, Expr::Call(path, arguments)))?;
         Ok(given)
     }
 
@@ -85,6 +87,7 @@ impl FunctionBindgen {
         params: List<WasmType>,
         arguments: List<Expr>,
     ) -> Result<(), OutOfMemory>
+        requires closed { self.old.opened ≡ [] }
         ensures { OnOk result (AddsStatement func.now params arguments self.old self.new) }
     {
         let import = LocalName {
@@ -95,7 +98,7 @@ impl FunctionBindgen {
         let name = numbered(self.alloc, import, t)?;
         let path = local_path(self.alloc, &name)?;
         self.push_import(func, name, params, None)?;
-        self.add_effect(Stmt::Expr(Expr::Call(path, arguments)))?;
+        self.add_outside(Stmt::Expr(Expr::Call(path, arguments)))?;
         Ok(())
     }
 

@@ -15,6 +15,7 @@ ghost use Rattle.func_gen.specs.Operand.{is_operand};
 ghost use Rattle.func_gen.specs.PartForms.{part_name};
 ghost use Rattle.func_gen.specs.Scope.{Takes, names_at};
 
+use crate::added::append;
 use crate::emit::parts::operand_exprs;
 use crate::forms::{argument_of, push_name};
 use crate::function_bindgen::FunctionBindgen;
@@ -312,7 +313,9 @@ impl FunctionBindgen {
     {
         let names = slot_names(self.alloc, "slot", casts)?;
         let t = self.scope.declare(self.alloc, names.as_slice())?;
-        push_slots(self.alloc, t, casts, es, &mut self.code.stmts)?;
+        let mut stmts = List::new(self.alloc);
+        push_slots(self.alloc, t, casts, es, &mut stmts)?;
+        append(self.alloc, &mut self.code.stmts, stmts)?;
         Ok(t)
     }
 

@@ -106,7 +106,7 @@ impl FunctionBindgen {
         requires empty { results.old ≡ [] }
         ensures { OnOk result (Emits func_meaning resolve.now.types (instruction.EnumLift id) operands.now results.new self.old self.new) }
     {
-        let e = only_expr(operands)?;
+        let e = only_expr(operands);
         let case = self.lifted_case(resolve, id, e)?;
         let name = self.add_let("v", case)?;
         let expr = Expr::Local(name);

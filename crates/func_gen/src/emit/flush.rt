@@ -13,6 +13,7 @@ ghost use Rattle.func_gen.specs.Meaning.{func_meaning};
 ghost use Rattle.func_gen.specs.PartForms.{names_from};
 ghost use Rattle.func_gen.specs.Scope.{TakesAll};
 
+use crate::added::append;
 use crate::emit::parts::{operand_exprs, part_names};
 use crate::function_bindgen::FunctionBindgen;
 use crate::operand::{ExprOperand, copy_expr};
@@ -77,7 +78,9 @@ impl FunctionBindgen {
     {
         let parts = part_names(self.alloc, "flush", count)?;
         let names = self.scope.declare_all(self.alloc, parts.as_slice())?;
-        push_lets(self.alloc, names.as_slice(), es, &mut self.code.stmts)?;
+        let mut lets = List::new(self.alloc);
+        push_lets(self.alloc, names.as_slice(), es, &mut lets)?;
+        append(self.alloc, &mut self.code.stmts, lets)?;
         Ok(names)
     }
 

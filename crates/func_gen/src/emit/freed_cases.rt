@@ -6,6 +6,7 @@ ghost use Rattle.rust_tree.specs.declared.pattern.ArmPattern.TheVariants as patt
 ghost use Rattle.wrapper_run.specs.Inward as spec;
 ghost use Rattle.abi_bindgen.specs.Instructions.{Emits, HasBlocks, IsSendable};
 ghost use Rattle.abi_bindgen.specs.declared.instruction.Instruction.TheVariants as instruction;
+ghost use Rattle.func_gen.specs.InwardCode.{IsInwardBlock};
 ghost use Rattle.func_gen.specs.LiftedCases.{FreesBy, freed_body, numbered_arms};
 ghost use Rattle.func_gen.specs.MatchForms.{arm_of};
 ghost use Rattle.func_gen.specs.Operand.{is_operand};
@@ -20,11 +21,12 @@ use rust_tree::{Arm, ArmPattern, Block, Expr, MatchNames, Stmt};
 use std::alloc::Global;
 use wit_model::{List, OutOfMemory, Resolve};
 
-/// The code of a block that gives nothing. Of one whose code is not inward there is no memory.
-fn freed_body(block: FinishedBlock) -> Result<Block, OutOfMemory>
+/// The code of a block that gives nothing.
+fn freed_body(block: FinishedBlock) -> Block
     requires none { block.results ≡ [] }
-    ensures body { IfOk result (λ b. b ≡ freed_body block) }
-    ensures inward { IfOk result (λ b. spec.is_inward b ≡ true) }
+    requires stmts { IsInwardBlock block }
+    ensures body { result ≡ freed_body block }
+    ensures inward { spec.is_inward result ≡ true }
 {
     let FinishedBlock {
         number: _,
@@ -36,14 +38,15 @@ fn freed_body(block: FinishedBlock) -> Result<Block, OutOfMemory>
 }
 
 /// The arm of a block by its number.
-fn freed_arm(number: u32, block: FinishedBlock) -> Result<Arm, OutOfMemory>
+fn freed_arm(number: u32, block: FinishedBlock) -> Arm
     requires none { block.results ≡ [] }
-    ensures arm { IfOk result (λ a. a ≡ arm_of (pattern.Number number) (freed_body block)) }
-    ensures inward { IfOk result (λ a. spec.is_inward (freed_body block) ≡ true) }
+    requires stmts { IsInwardBlock block }
+    ensures arm { result ≡ arm_of (pattern.Number number) (freed_body block) }
+    ensures inward { spec.is_inward (freed_body block) ≡ true }
 {
-    let body = freed_body(block)?;
+    let body = freed_body(block);
     let pattern = ArmPattern::Number(number);
-    Ok(Arm { pattern, body })
+    Arm { pattern, body }
 }
 
 /// The arms of so many blocks by their numbers, of which the last one is the first.
@@ -54,6 +57,7 @@ fn freed_arms(
 ) -> Result<List<Arm>, OutOfMemory>
     requires many { length blocks ≡ count }
     requires none { AllByRecursion (λ b. b.results ≡ []) (reverse blocks) }
+    requires stmts { AllByRecursion IsInwardBlock (reverse blocks) }
     ensures arms { IfOk result (λ arms. arms ≡ numbered_arms 0 (map freed_body (reverse blocks))) }
     ensures inward { IfOk result (λ arms. list_all spec.is_inward (map freed_body (reverse blocks)) ≡ true) }
 {
@@ -63,7 +67,7 @@ fn freed_arms(
         let Some(block) = left.pop() else {
             unreachable!()
         };
-        arms.push(freed_arm(k, block)?)?;
+        arms.push(freed_arm(k, block))?;
     }
     Ok(arms)
 }
@@ -78,7 +82,7 @@ impl FunctionBindgen {
         let blocks = self.use_blocks(count as usize + 1)?;
         let (last, others) = parted(blocks);
         let mut arms = freed_arms(self.alloc, count, others)?;
-        let body = freed_body(last)?;
+        let body = freed_body(last);
         arms.push(Arm {
             pattern: ArmPattern::AnyOther,
             body,
@@ -99,7 +103,7 @@ impl FunctionBindgen {
         requires empty { results.old ≡ [] }
         ensures { OnOk result (Emits func_meaning resolve.now.types (instruction.GuestDeallocateVariant count) operands.now results.new self.old self.new) }
     {
-        let e = only_expr(operands)?;
+        let e = only_expr(operands);
         self.free_cases(count - 1, e)?;
         Ok(())
     }

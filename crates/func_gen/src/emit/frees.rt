@@ -1,9 +1,11 @@
 //! Texts, and blocks of a size, are freed.
 
 ghost use Rattle.std.specs.Prelude.{◌≡◌, [], ◌∷◌, ◌++◌, true, length, IfOk, OnOk};
+ghost use Rattle.std.specs.List.{list_all};
 ghost use Rattle.rust_tree.specs.declared.expr.Expr.TheVariants as expr;
 ghost use Rattle.rust_tree.specs.declared.stmt.Stmt.TheVariants as stmt;
 ghost use Rattle.rust_tree.specs.declared.runtime_item.RuntimeItem.TheVariants.{CabiDealloc};
+ghost use Rattle.wrapper_run.specs.Inward.{is_inward_expr};
 ghost use Rattle.abi_bindgen.specs.Instructions.{Emits, IsSendable};
 ghost use Rattle.abi_bindgen.specs.declared.instruction.Instruction.TheVariants as instruction;
 ghost use Rattle.func_gen.specs.Added.{Appends};
@@ -68,6 +70,7 @@ fn block_at(
 impl FunctionBindgen {
     /// The bytes of these arguments are freed, which have this alignment.
     fn add_free(&mut self, bytes: List<Expr>, align: ArchitectureSize) -> Result<(), OutOfMemory>
+        requires inward { list_all is_inward_expr bytes ≡ true }
         ensures adds { OnOk result (Appends self.old self.new (stmt.Expr (expr.Call (runtime_path CabiDealloc) (bytes ++ expr.Size align ∷ [])) ∷ []) (CabiDealloc ∷ [])) }
         ensures scope { OnOk result (self.new.scope ≡ self.old.scope) }
     {
@@ -89,7 +92,7 @@ impl FunctionBindgen {
         requires empty { results.old ≡ [] }
         ensures { OnOk result (Emits func_meaning resolve.now.types instruction.GuestDeallocateString operands.now results.new self.old self.new) }
     {
-        let (address, n) = both_exprs(operands)?;
+        let (address, n) = both_exprs(operands);
         let bytes = bytes_at(self.alloc, address, n)?;
         self.add_free(bytes, align_size(Alignment::Bytes(1)))?;
         Ok(())
@@ -107,7 +110,7 @@ impl FunctionBindgen {
         requires empty { results.old ≡ [] }
         ensures { OnOk result (Emits func_meaning resolve.now.types (instruction.GuestDeallocate size align) operands.now results.new self.old self.new) }
     {
-        let address = only_expr(operands)?;
+        let address = only_expr(operands);
         let block = block_at(self.alloc, address, size)?;
         self.add_free(block, align_size(align))?;
         Ok(())

@@ -1,7 +1,7 @@
 //! Finished blocks become the arms of a match by numbers.
 
 ghost use Rattle.std.specs.Prelude.{◌≡◌, ◌<◌, ◌≤◌, ◌^◌, [], ◌∷◌, true, codes, length, reverse, take, IfOk, OnOk};
-ghost use Rattle.std.specs.List.{list_all};
+ghost use Rattle.std.specs.List.{AllByRecursion, list_all};
 ghost use Rattle.rust_tree.specs.declared.stmt.MatchNames.TheVariants as names_of;
 ghost use Rattle.rust_tree.specs.declared.stmt.Stmt.TheVariants as stmt;
 ghost use Rattle.rust_tree.specs.declared.pattern.ArmPattern.TheVariants as pattern;
@@ -9,11 +9,12 @@ ghost use Rattle.wrapper_run.specs.Inward as spec;
 ghost use Rattle.abi_bindgen.specs.Instructions.{Emits, IsSendable};
 ghost use Rattle.abi_bindgen.specs.declared.instruction.Instruction.TheVariants as instruction;
 ghost use Rattle.func_gen.specs.Added.{Appends, Fresh};
-ghost use Rattle.func_gen.specs.LiftedCases.{LiftsBy, are_few, case_body, case_expr, empty_case, invalid_body, is_liftable, is_unit, lifted_bodies, lifted_body, numbered_arms};
+ghost use Rattle.func_gen.specs.InwardCode.{IsInwardBlock, are_inward_stmts, is_inward_arm};
+ghost use Rattle.func_gen.specs.LiftedCases.{LiftsBy, are_few, case_body, case_expr, empty_case, invalid_body, is_inward_case, is_liftable, is_unit, lifted_bodies, lifted_body, numbered_arms};
 ghost use Rattle.func_gen.specs.MatchForms.{arm_of, case_path};
 ghost use Rattle.func_gen.specs.Operand.{is_operand};
 ghost use Rattle.func_gen.specs.Meaning.{func_meaning};
-ghost use Rattle.func_gen.specs.PartForms.{exprs_of};
+ghost use Rattle.func_gen.specs.PartForms.{are_operands, exprs_of};
 ghost use Rattle.func_gen.specs.Scope.{TakesOne};
 
 use crate::added::only_expr;
@@ -65,7 +66,8 @@ pub(crate) fn case_expr(
     results: &[ExprOperand],
 ) -> Result<Expr, OutOfMemory>
     requires few { are_few results.now ≡ true }
-    ensures { IfOk result (λ e. e ≡ case_expr (is_unit case.now) (case_path case.now) (exprs_of results.now)) }
+    ensures case { IfOk result (λ e. e ≡ case_expr (is_unit case.now) (case_path case.now) (exprs_of results.now)) }
+    ensures operands { IfOk result (λ e. are_operands results.now ≡ true) }
 {
     let path = case_path(alloc, case)?;
     match results {
@@ -78,7 +80,7 @@ pub(crate) fn case_expr(
     }
 }
 
-/// Statements, and the case of what they give. Of code that is not inward there is no memory.
+/// Statements, and the case of what they give.
 pub(crate) fn case_body(
     alloc: Global,
     case: &CaseForm,
@@ -86,16 +88,20 @@ pub(crate) fn case_body(
     results: &[ExprOperand],
 ) -> Result<Block, OutOfMemory>
     requires few { are_few results.now ≡ true }
+    requires inward { is_inward_case case.now ≡ true }
+    requires stmts { are_inward_stmts stmts ≡ true }
     ensures body { IfOk result (λ b. b ≡ case_body (is_unit case.now) (case_path case.now) stmts (exprs_of results.now)) }
     ensures inward { IfOk result (λ b. spec.is_inward b ≡ true) }
 {
     let tail = case_expr(alloc, case, results)?;
-    inward_block(stmts, Some(tail))
+    Ok(inward_block(stmts, Some(tail)))
 }
 
-/// The code of a block, and the case of what it gives. Of code that is not inward there is no memory.
+/// The code of a block, and the case of what it gives.
 fn lifted_body(alloc: Global, case: &CaseForm, block: FinishedBlock) -> Result<Block, OutOfMemory>
     requires few { is_liftable block ≡ true }
+    requires inward { is_inward_case case.now ≡ true }
+    requires stmts { IsInwardBlock block }
     ensures body { IfOk result (λ b. b ≡ lifted_body case.now block) }
     ensures inward { IfOk result (λ b. spec.is_inward b ≡ true) }
 {
@@ -116,6 +122,8 @@ fn numbered_arm(
     block: FinishedBlock,
 ) -> Result<Arm, OutOfMemory>
     requires few { is_liftable block ≡ true }
+    requires inward { is_inward_case case.now ≡ true }
+    requires stmts { IsInwardBlock block }
     ensures arm { IfOk result (λ a. a ≡ arm_of (pattern.Number number) (lifted_body case.now block)) }
     ensures inward { IfOk result (λ a. spec.is_inward (lifted_body case.now block) ≡ true) }
 {
@@ -131,7 +139,7 @@ fn invalid_body(alloc: Global) -> Result<Block, OutOfMemory>
 {
     let path = runtime_path(alloc, RuntimeItem::InvalidEnumDiscriminant)?;
     let tail = Expr::Call(path, List::new(alloc));
-    inward_block(List::new(alloc), Some(tail))
+    Ok(inward_block(List::new(alloc), Some(tail)))
 }
 
 /// The arms of cases by their numbers, of whose blocks the last one is the first.
@@ -143,6 +151,8 @@ pub(crate) fn lifted_arms(
     requires many { length cases.now ≡ length blocks }
     requires low { length cases.now < 2 ^ 32 }
     requires few { list_all is_liftable (reverse blocks) ≡ true }
+    requires inward { list_all is_inward_case cases.now ≡ true }
+    requires stmts { AllByRecursion IsInwardBlock (reverse blocks) }
     ensures arms { IfOk result (λ arms. arms ≡ numbered_arms 0 (lifted_bodies cases.now (reverse blocks))) }
     ensures inward { IfOk result (λ arms. list_all spec.is_inward (lifted_bodies cases.now (reverse blocks)) ≡ true) }
 {
@@ -161,6 +171,7 @@ impl FunctionBindgen {
     /// The name of a new local for what the arms of a match give.
     fn add_match(&mut self, e: &Expr, arms: List<Arm>) -> Result<Text, OutOfMemory>
         requires operand { is_operand e.now ≡ true }
+        requires inward { list_all is_inward_arm arms ≡ true }
         ensures adds { IfOk result (λ v. Appends self.old self.new (stmt.Match (names_of.One v) e.now arms ∷ []) []) }
         ensures fresh { IfOk result (λ v. Fresh self.old self.new v) }
         ensures takes { IfOk result (λ v. TakesOne self.old.scope (codes "v") v self.new.scope) }
@@ -177,6 +188,7 @@ impl FunctionBindgen {
         requires low { length cases.now < 2 ^ 32 }
         requires there { length cases.now ≤ length self.old.finished }
         requires few { list_all is_liftable (take (length cases.now) (reverse self.old.finished)) ≡ true }
+        requires inward { list_all is_inward_case cases.now ≡ true }
         ensures { IfOk result (λ v. LiftsBy cases.now e.now v self.old self.new) }
     {
         let blocks = self.use_blocks(cases.len())?;
@@ -202,7 +214,7 @@ impl FunctionBindgen {
         requires empty { results.old ≡ [] }
         ensures { OnOk result (Emits func_meaning resolve.now.types (instruction.OptionLift id) operands.now results.new self.old self.new) }
     {
-        let e = only_expr(operands)?;
+        let e = only_expr(operands);
         let forms = option_forms(self.alloc, resolve, id)?;
         let name = self.lift_cases(forms.as_slice(), e)?;
         let expr = Expr::Local(name);
@@ -221,7 +233,7 @@ impl FunctionBindgen {
         requires empty { results.old ≡ [] }
         ensures { OnOk result (Emits func_meaning resolve.now.types (instruction.ResultLift id) operands.now results.new self.old self.new) }
     {
-        let e = only_expr(operands)?;
+        let e = only_expr(operands);
         let forms = result_forms(self.alloc, resolve, id)?;
         let name = self.lift_cases(forms.as_slice(), e)?;
         let expr = Expr::Local(name);

@@ -9,7 +9,8 @@ ghost use Rattle.wrapper_run.specs.Inward as spec;
 ghost use Rattle.abi_bindgen.specs.Instructions.{Emits, IsSendable};
 ghost use Rattle.abi_bindgen.specs.declared.instruction.Instruction.TheVariants as instruction;
 ghost use Rattle.func_gen.specs.declared.function_bindgen.FinishedBlock.{FinishedBlock};
-ghost use Rattle.func_gen.specs.LiftedCases.{LiftsVariantBy, MemberArms, NamesCase, is_liftable, last_body};
+ghost use Rattle.func_gen.specs.InwardCode.{IsInwardBlock};
+ghost use Rattle.func_gen.specs.LiftedCases.{LiftsVariantBy, MemberArms, NamesCase, is_inward_case, is_liftable, last_body};
 ghost use Rattle.func_gen.specs.MatchForms.{arm_of};
 ghost use Rattle.func_gen.specs.Operand.{is_operand};
 ghost use Rattle.func_gen.specs.Meaning.{func_meaning};
@@ -58,6 +59,8 @@ fn last_arm(
     block: FinishedBlock,
 ) -> Result<Arm, OutOfMemory>
     requires few { is_liftable block ≡ true }
+    requires inward { is_inward_case case.now ≡ true }
+    requires stmts { IsInwardBlock block }
     requires unnamed { is_used block.names name ≡ false }
     ensures arm { IfOk result (λ a. a ≡ arm_of (pattern.Name name) (last_body name number case.now block)) }
     ensures inward { IfOk result (λ a. spec.is_inward (last_body name number case.now block) ≡ true) }
@@ -86,6 +89,9 @@ fn member_arms(
     requires many { length blocks ≡ length cases.now + 1 }
     requires low { length cases.now < 2 ^ 32 }
     requires few { list_all is_liftable (reverse blocks) ≡ true }
+    requires inward { list_all is_inward_case cases.now ≡ true }
+    requires inward_last { is_inward_case last.now ≡ true }
+    requires stmts { AllByRecursion IsInwardBlock blocks }
     requires unnamed { AllByRecursion (λ (b : FinishedBlock). is_used b.names number ≡ false) blocks }
     ensures { IfOk result (λ arms. MemberArms cases.now last.now number blocks arms) }
 {
@@ -127,6 +133,8 @@ impl FunctionBindgen {
         requires low { length cases.now < 2 ^ 32 }
         requires there { length cases.now + 1 ≤ length self.old.finished }
         requires few { list_all is_liftable (take (length cases.now + 1) (reverse self.old.finished)) ≡ true }
+        requires inward { list_all is_inward_case cases.now ≡ true }
+        requires inward_last { is_inward_case last.now ≡ true }
         ensures { IfOk result (λ v. (n : Bytes) × LiftsVariantBy cases.now last.now e.now n v self.old self.new) }
     {
         let blocks = self.use_blocks(cases.len() + 1)?;
@@ -154,7 +162,7 @@ impl FunctionBindgen {
         let Some(last) = cases.pop() else {
             unreachable!()
         };
-        let e = only_expr(operands)?;
+        let e = only_expr(operands);
         let name = self.lift_members(cases.as_slice(), &last, e)?;
         let expr = Expr::Local(name);
         results.push(ExprOperand { expr, kept: false })?;

@@ -3,36 +3,21 @@
 ghost use Rattle.std.specs.Prelude.{◌≡◌, ℕ, true, length, replicate, reverse, IfOk};
 ghost use Rattle.std.specs.List.{AllByRecursion, list_all};
 ghost use Rattle.abi_bindgen.specs.Instructions.{HasBlocks};
-ghost use Rattle.func_gen.specs.MatchForms.{BindsMatch, LowersBy, UsesArms, are_plain, is_lowerable, lowered_arm, lowered_arms, lowered_body, match_names, result_names, tail_of};
+ghost use Rattle.func_gen.specs.InwardCode.{IsInwardBlock, is_inward_arm};
+ghost use Rattle.func_gen.specs.MatchForms.{BindsMatch, LowersBy, UsesArms, is_lowerable, lowered_arm, lowered_arms, lowered_body, match_names, result_names, tail_of};
 ghost use Rattle.func_gen.specs.Meaning.{func_meaning};
-ghost use Rattle.func_gen.specs.PartForms.{exprs_of};
 ghost use Rattle.func_gen.specs.Scope.{names_at};
 ghost use Rattle.func_gen.specs.Operand.{is_operand};
 
 use crate::case_form::{CaseForm, case_pattern};
-use crate::emit::parts::part_names;
+use crate::emit::parts::{operand_exprs, part_names};
 use crate::function_bindgen::{FinishedBlock, FunctionBindgen};
 use crate::inward::inward_block;
-use crate::operand::{ExprOperand, copy_expr, copy_names};
+use crate::operand::{copy_expr, copy_names};
 use crate::scope::LocalName;
 use rust_tree::{Arm, Block, Expr, MatchNames, Stmt};
 use std::alloc::Global;
 use wit_model::{List, OutOfMemory, Text};
-
-/// The expressions of operands. Of a word that is kept as a number there is no memory.
-fn plain_exprs(alloc: Global, operands: &[ExprOperand]) -> Result<List<Expr>, OutOfMemory>
-    ensures same { IfOk result (λ es. es ≡ exprs_of operands.now) }
-    ensures plain { IfOk result (λ es. are_plain operands.now ≡ true) }
-{
-    let mut es = List::new(alloc);
-    for operand in operands {
-        if operand.kept {
-            return Err(OutOfMemory);
-        }
-        es.push(copy_expr(&operand.expr, alloc)?)?;
-    }
-    Ok(es)
-}
 
 /// What stands last: nothing, the one expression, or a tuple of several.
 fn tail_of(es: List<Expr>) -> Option<Expr>
@@ -71,9 +56,10 @@ fn result_locals(alloc: Global, count: u32) -> Result<List<LocalName<'static>>, 
     Ok(names)
 }
 
-/// The code of a block that gives so many results. Of one whose code is not inward there is no memory.
+/// The code of a block that gives so many results.
 fn lowered_body(alloc: Global, block: FinishedBlock, count: u32) -> Result<Block, OutOfMemory>
     requires many { length block.results ≡ count }
+    requires inward { IsInwardBlock block }
     ensures body { IfOk result (λ b. b ≡ lowered_body block) }
     ensures fits { IfOk result (λ b. is_lowerable count block ≡ true) }
 {
@@ -83,11 +69,11 @@ fn lowered_body(alloc: Global, block: FinishedBlock, count: u32) -> Result<Block
         stmts,
         results,
     } = block;
-    let es = plain_exprs(alloc, results.as_slice())?;
-    inward_block(stmts, tail_of(es))
+    let es = operand_exprs(alloc, results.as_slice())?;
+    Ok(inward_block(stmts, tail_of(es)))
 }
 
-/// The arm of a case, whose block gives so many results. Of one whose code is not inward there is no memory.
+/// The arm of a case, whose block gives so many results.
 fn lowered_arm(
     alloc: Global,
     case: &CaseForm,
@@ -95,6 +81,7 @@ fn lowered_arm(
     count: u32,
 ) -> Result<Arm, OutOfMemory>
     requires many { length block.results ≡ count }
+    requires inward { IsInwardBlock block }
     ensures arm { IfOk result (λ a. a ≡ lowered_arm case.now block) }
     ensures fits { IfOk result (λ a. is_lowerable count block ≡ true) }
 {
@@ -113,6 +100,7 @@ fn lowered_arms(
 ) -> Result<List<Arm>, OutOfMemory>
     requires many { length cases.now ≡ length left.old.items }
     requires each { AllByRecursion (λ b. length b.results ≡ count) (reverse left.old.items) }
+    requires inward { AllByRecursion IsInwardBlock (reverse left.old.items) }
     ensures arms { IfOk result (λ arms. arms ≡ lowered_arms cases.now (reverse left.old.items)) }
     ensures fit { IfOk result (λ arms. list_all (is_lowerable count) (reverse left.old.items) ≡ true) }
 {
@@ -146,6 +134,7 @@ impl FunctionBindgen {
         count: u32,
     ) -> Result<List<Text>, OutOfMemory>
         requires operand { is_operand e.now ≡ true }
+        requires inward { list_all is_inward_arm arms ≡ true }
         ensures { IfOk result (λ names. BindsMatch e.now arms count names self.old self.new) }
     {
         let locals = result_locals(self.alloc, count)?;

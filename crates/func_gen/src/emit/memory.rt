@@ -5,11 +5,12 @@ ghost use Rattle.rust_tree.specs.declared.stmt.Stmt.TheVariants as stmt;
 ghost use Rattle.abi_bindgen.specs.Instructions.{Emits};
 ghost use Rattle.func_gen.specs.Added.{Appends};
 ghost use Rattle.func_gen.specs.Forms.{operand_of};
+ghost use Rattle.func_gen.specs.InwardCode.{are_inward_stmts};
 ghost use Rattle.func_gen.specs.Meaning.{func_meaning};
 ghost use Rattle.func_gen.specs.MemoryForms.{small_store, whole_store};
 ghost use Rattle.func_gen.specs.Operand.{is_operand};
+ghost use Rattle.func_gen.specs.PartForms.{exprs_of};
 
-use crate::added::operand_expr;
 use crate::function_bindgen::FunctionBindgen;
 use crate::operand::{ExprOperand, copy_expr};
 use abi_bindgen::Instruction;
@@ -43,28 +44,27 @@ pub(crate) fn small_store(inst: &Instruction) -> Option<(ArchitectureSize, Small
     }
 }
 
-/// The expressions of the two operands. Of a word that is kept as a number there is no memory.
-pub(crate) fn both_exprs(operands: &List<ExprOperand>) -> Result<(&Expr, &Expr), OutOfMemory>
+/// The expressions of the two operands.
+pub(crate) fn both_exprs(operands: &List<ExprOperand>) -> (&Expr, &Expr)
     requires { length operands.now ≡ 2 }
-    ensures both { IfOk result (λ es. operands.now ≡ operand_of es.0.now ∷ operand_of es.1.now ∷ []) }
-    ensures first { IfOk result (λ es. is_operand es.0.now ≡ true) }
-    ensures second { IfOk result (λ es. is_operand es.1.now ≡ true) }
+    ensures both { exprs_of operands.now ≡ result.0.now ∷ result.1.now ∷ [] }
+    ensures first { is_operand result.0.now ≡ true }
+    ensures second { is_operand result.1.now ≡ true }
 {
     let [a, b] = operands.as_slice() else {
         unreachable!()
     };
-    let first = operand_expr(a)?;
-    Ok((first, operand_expr(b)?))
+    (&a.expr, &b.expr)
 }
 
 /// The same, copied.
 fn both_operands(alloc: Global, operands: &List<ExprOperand>) -> Result<(Expr, Expr), OutOfMemory>
     requires { length operands.now ≡ 2 }
-    ensures both { IfOk result (λ es. operands.now ≡ operand_of es.0 ∷ operand_of es.1 ∷ []) }
+    ensures both { IfOk result (λ es. exprs_of operands.now ≡ es.0 ∷ es.1 ∷ []) }
     ensures first { IfOk result (λ es. is_operand es.0 ≡ true) }
     ensures second { IfOk result (λ es. is_operand es.1 ≡ true) }
 {
-    let (first, second) = both_exprs(operands)?;
+    let (first, second) = both_exprs(operands);
     let first = copy_expr(first, alloc)?;
     Ok((first, copy_expr(second, alloc)?))
 }
@@ -72,10 +72,12 @@ fn both_operands(alloc: Global, operands: &List<ExprOperand>) -> Result<(Expr, E
 impl FunctionBindgen {
     /// A statement that declares no name.
     pub(crate) fn add_effect(&mut self, effect: Stmt) -> Result<(), OutOfMemory>
+        requires inward { are_inward_stmts (effect ∷ []) ≡ true }
         ensures adds { OnOk result (Appends self.old self.new (effect ∷ []) []) }
         ensures scope { OnOk result (self.new.scope ≡ self.old.scope) }
     {
-        self.code.stmts.push(effect)
+        self.code.stmts.push(effect)?;
+        Ok(())
     }
 
     pub(crate) fn store(

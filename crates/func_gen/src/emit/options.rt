@@ -67,7 +67,7 @@ impl FunctionBindgen {
         requires empty { results.old ≡ [] }
         ensures { OnOk result (Emits func_meaning resolve.now.types (instruction.OptionLower id count) operands.now results.new self.old self.new) }
     {
-        let e = only_expr(operands)?;
+        let e = only_expr(operands);
         let forms = option_forms(self.alloc, resolve, id)?;
         let names = self.lower_cases(forms.as_slice(), e, count)?;
         push_locals(self.alloc, names.as_slice(), results)?;

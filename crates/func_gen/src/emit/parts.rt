@@ -105,7 +105,7 @@ impl FunctionBindgen {
         requires empty { results.old ≡ [] }
         ensures { OnOk result (Emits func_meaning resolve.now.types (instruction.TupleLower count) operands.now results.new self.old self.new) }
     {
-        let e = only_expr(operands)?;
+        let e = only_expr(operands);
         let names = self.add_parts(count, e)?;
         push_locals(self.alloc, names.as_slice(), results)?;
         Ok(())

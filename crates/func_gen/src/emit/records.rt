@@ -186,7 +186,7 @@ impl FunctionBindgen {
         requires empty { results.old ≡ [] }
         ensures { OnOk result (Emits func_meaning resolve.now.types (instruction.RecordLower id) operands.now results.new self.old self.new) }
     {
-        let e = only_expr(operands)?;
+        let e = only_expr(operands);
         let names = self.add_fields(resolve, id, e)?;
         push_locals(self.alloc, names.as_slice(), results)?;
         Ok(())

@@ -1,20 +1,24 @@
 //! Texts become an address and a length, and texts are taken over by these.
 
 ghost use Rattle.std.specs.Prelude.{◌≡◌, [], ◌∷◌, true, false, length, IfOk, OnOk};
+ghost use Rattle.std.specs.Option.{option_copied};
 ghost use Rattle.rust_tree.specs.declared.expr.Expr.TheVariants as expr;
 ghost use Rattle.rust_tree.specs.declared.runtime_item.RuntimeItem.TheVariants.{StringLift};
 ghost use Rattle.rust_tree.specs.declared.stmt.Stmt.TheVariants as stmt;
+ghost use Rattle.wrapper_run.specs.Inward.{is_inward_expr};
 ghost use Rattle.abi_bindgen.specs.Instructions.{Emits};
 ghost use Rattle.abi_bindgen.specs.declared.instruction.Instruction.TheVariants as instruction;
 ghost use Rattle.func_gen.specs.Added.{Appends};
 ghost use Rattle.func_gen.specs.CallForms.{FreshAll};
-ghost use Rattle.func_gen.specs.Forms.{operand_of, runtime_call};
+ghost use Rattle.func_gen.specs.CodeOf.{local_of};
+ghost use Rattle.func_gen.specs.Forms.{runtime_call};
 ghost use Rattle.func_gen.specs.Operand.{is_operand};
 ghost use Rattle.func_gen.specs.Meaning.{func_meaning};
+ghost use Rattle.func_gen.specs.PartForms.{exprs_of};
 ghost use Rattle.func_gen.specs.Scope.{Takes, with_number};
 ghost use Rattle.func_gen.specs.TextForms.{buffer_stmts, buffer_words, bytes_name, forget_path, forgotten, len_name, ptr_name, taken_stmts, text_name, vec_name};
 
-use crate::added::only_operand;
+use crate::added::{only_expr, only_operand};
 use crate::emit::memory::both_exprs;
 use crate::forms::{call_of, push_name, runtime_call};
 use crate::function_bindgen::FunctionBindgen;
@@ -54,15 +58,13 @@ fn forgotten(alloc: Global, name: Text) -> Result<Expr, OutOfMemory>
     call_of(alloc, path, Expr::Local(name))
 }
 
-/// The one operand, where it is a local by itself that is not kept. Of any other there is no memory.
-fn only_local(alloc: Global, operands: &List<ExprOperand>) -> Result<Text, OutOfMemory>
-    requires one { length operands.now ≡ 1 }
-    ensures { IfOk result (λ name. operands.now ≡ operand_of (expr.Local name) ∷ []) }
+/// The name of a local by itself.
+fn local_of(e: &Expr) -> Option<&Text>
+    ensures { option_copied result ≡ local_of e.now }
 {
-    let operand = &operands.as_slice()[0];
-    match &operand.expr {
-        Expr::Local(name) if !operand.kept => name.copy(alloc),
-        _ => Err(OutOfMemory),
+    match e {
+        Expr::Local(name) => Some(name),
+        _ => None,
     }
 }
 
@@ -120,6 +122,7 @@ impl FunctionBindgen {
     /// The locals of a buffer with this number and name, whose value an expression gives: itself, its address and its length.
     fn push_buffer(&mut self, t: u32, vec: Text, e: Expr) -> Result<(), OutOfMemory>
         requires name { vec ≡ vec_name t }
+        requires inward { is_inward_expr e ≡ true }
         ensures adds { OnOk result (Appends self.old self.new (buffer_stmts t e) []) }
         ensures scope { OnOk result (self.new.scope ≡ self.old.scope) }
     {
@@ -130,6 +133,7 @@ impl FunctionBindgen {
     }
 
     fn push_bytes(&mut self, t: u32, address: Expr) -> Result<(), OutOfMemory>
+        requires inward { is_inward_expr address ≡ true }
         ensures adds { OnOk result (Appends self.old self.new (stmt.Let (bytes_name t) (expr.FromRawParts address (len_name t)) ∷ []) []) }
         ensures scope { OnOk result (self.new.scope ≡ self.old.scope) }
     {
@@ -185,7 +189,30 @@ impl FunctionBindgen {
         Ok(())
     }
 
-    /// Of an operand that is no local there is no memory.
+    /// The text in a local is given away.
+    fn hand_text(
+        &mut self,
+        resolve: &Resolve,
+        name: &Text,
+        operands: &List<ExprOperand>,
+        results: &mut List<ExprOperand>,
+    ) -> Result<(), OutOfMemory>
+        requires local { exprs_of operands.now ≡ expr.Local name.now ∷ [] }
+        requires empty { results.old ≡ [] }
+        ensures { OnOk result (Emits func_meaning resolve.now.types (instruction.StringLower true) operands.now results.new self.old self.new) }
+    {
+        let t = self.declare_three("vec", "ptr", "len")?;
+        let vec = local_name(self.alloc, "vec", t)?;
+        let name = name.copy(self.alloc)?;
+        self.push_buffer(t, vec, Expr::IntoBoxedBytes(name))?;
+        let vec = local_name(self.alloc, "vec", t)?;
+        let call = forgotten(self.alloc, vec)?;
+        self.add_effect(Stmt::Expr(call))?;
+        push_words(self.alloc, t, results)?;
+        Ok(())
+    }
+
+    /// A text is given away. Any operand but a local by itself denotes none that may be: it is lent.
     pub(crate) fn give_text(
         &mut self,
         resolve: &Resolve,
@@ -196,15 +223,11 @@ impl FunctionBindgen {
         requires empty { results.old ≡ [] }
         ensures { OnOk result (Emits func_meaning resolve.now.types (instruction.StringLower true) operands.now results.new self.old self.new) }
     {
-        let t = self.declare_three("vec", "ptr", "len")?;
-        let vec = local_name(self.alloc, "vec", t)?;
-        let name = only_local(self.alloc, operands)?;
-        self.push_buffer(t, vec, Expr::IntoBoxedBytes(name))?;
-        let vec = local_name(self.alloc, "vec", t)?;
-        let call = forgotten(self.alloc, vec)?;
-        self.add_effect(Stmt::Expr(call))?;
-        push_words(self.alloc, t, results)?;
-        Ok(())
+        let e = only_expr(operands);
+        match local_of(e) {
+            Some(name) => self.hand_text(resolve, name, operands, results),
+            None => self.lend_text(resolve, operands, results),
+        }
     }
 
     pub(crate) fn lift_text(
@@ -221,7 +244,7 @@ impl FunctionBindgen {
         self.ask(RuntimeItem::StringLift)?;
         let t = self.declare_three("len", "bytes", "text")?;
         let len = local_name(self.alloc, "len", t)?;
-        let (address, n) = both_exprs(operands)?;
+        let (address, n) = both_exprs(operands);
         self.push_taken(t, len, address, n)?;
         let name = local_name(self.alloc, "text", t)?;
         let expr = Expr::Local(name);

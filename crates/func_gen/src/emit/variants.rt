@@ -135,7 +135,7 @@ impl FunctionBindgen {
         requires empty { results.old ≡ [] }
         ensures { OnOk result (Emits func_meaning resolve.now.types (instruction.VariantLower id count) operands.now results.new self.old self.new) }
     {
-        let e = only_expr(operands)?;
+        let e = only_expr(operands);
         let forms = variant_forms(self.alloc, resolve, self.sites.as_slice(), id)?;
         let names = self.lower_cases(forms.as_slice(), e, count)?;
         push_locals(self.alloc, names.as_slice(), results)?;

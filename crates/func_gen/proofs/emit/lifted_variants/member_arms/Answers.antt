@@ -4,7 +4,8 @@ use Rattle.std.proofs.lemmas.List.{length-reverse, reverse-append}
 use Rattle.func_gen.specs.declared.function_bindgen.FinishedBlock.{FinishedBlock}
 use Rattle.func_gen.specs.LiftedCases.{is_liftable}
 use Rattle.func_gen.specs.Scope.{is_used}
-use Rattle.func_gen.proofs.BlocksThere.{split_few}
+use Rattle.func_gen.proofs.BlocksThere.{split_few, all_back}
+use Rattle.func_gen.specs.InwardCode.{IsInwardBlock}
 use Rattle.func_gen.proofs.emit.lifted_variants.member_arms.Goals as goal
 
 pub lifted_arms-requires-clause-few : goal.lifted_arms-requires-clause-few
@@ -15,6 +16,8 @@ last_arm-requires c =
     let number = c.args.number in
     record {
       few = (split_few c.parted-block.result.0 c.parted-block.result.1 (subst (λ blocks. list_all is_liftable (reverse blocks) ≡ true) c.parted-block.ensures c.requires.few)).0;
+      inward = c.requires.inward_last;
+      stmts = (subst (AllByRecursion IsInwardBlock) c.parted-block.ensures c.requires.stmts).0;
       unnamed = (subst (AllByRecursion (λ (b : FinishedBlock). is_used b.names number ≡ false)) c.parted-block.ensures c.requires.unnamed).0;
     }
 
@@ -37,3 +40,6 @@ returns c =
       inward_last = c.in_ok-other.ensures.inward;
       are = c.in_ok-push.ensures.ok ∙ ap₂ (λ arms other. arms ++ other ∷ []) c.in_ok-arms.ensures.arms c.in_ok-other.ensures.arm;
     }
+
+pub lifted_arms-requires-clause-stmts : goal.lifted_arms-requires-clause-stmts
+lifted_arms-requires-clause-stmts c = all_back IsInwardBlock c.parted-block.result.1 (subst (AllByRecursion IsInwardBlock) c.parted-block.ensures c.requires.stmts).1

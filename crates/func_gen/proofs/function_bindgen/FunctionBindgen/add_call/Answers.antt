@@ -1,4 +1,4 @@
-use Rattle.std.proofs.Common.{[], ◌∷◌, Some, refl, sym, ap₂, ◌∙◌, subst}
+use Rattle.std.proofs.Common.{[], ◌∷◌, Some, refl, sym, ap, ap₂, ◌∙◌, subst}
 use Rattle.rust_tree.specs.declared.expr.Expr.TheVariants as expr
 use Rattle.rust_tree.specs.declared.stmt.Stmt.TheVariants as stmt
 use Rattle.func_gen.specs.Added.{Appends}
@@ -9,6 +9,7 @@ use Rattle.func_gen.proofs.CallRows.{declared_as}
 use Rattle.func_gen.proofs.Declared.{still_fresh}
 use Rattle.func_gen.proofs.Rows.{appends_both, no_code}
 use Rattle.func_gen.proofs.KeptNames.{still_whole}
+use Rattle.func_gen.specs.declared.function_bindgen.FunctionBindgen.{FunctionBindgen}
 use Rattle.func_gen.proofs.function_bindgen.FunctionBindgen.add_call.Goals as goal
 
 pub returns : goal.returns
@@ -16,16 +17,16 @@ returns c =
     let old = seen_bindgen c.self.inside in
     let mid = record old { scope = c.declare.new.self } in
     let imported = c.push_import.new.self in
-    let new = c.add_effect.new.self in
+    let new = c.add_outside.new.self in
     let name = c.in_ok-name.name in
     let given = c.in_ok-given.given in
     let path = c.in_ok-path.path in
     let t = c.in_ok-t.t in
     let declares = stmt.Import (import_of old.home c.args.func.now c.args.params (Some c.args.ty) name) in
-    let scope = c.in_ok-add_effect.ensures.scope ∙ c.in_ok-push_import.ensures.scope in
+    let scope = c.in_ok-add_outside.ensures.scope ∙ c.in_ok-push_import.ensures.scope in
     let answers = c.in_ok-given.ensures ∙ c.in_ok-answer.ensures in
     let first = appends_both old mid imported [] (declares ∷ []) [] [] (no_code old mid refl) c.in_ok-push_import.ensures.adds in
-    let both = appends_both old imported new (declares ∷ []) (stmt.Let c.in_ok-answer.answer (expr.Call path c.args.arguments) ∷ []) [] [] first c.in_ok-add_effect.ensures.adds in
+    let both = appends_both old imported new (declares ∷ []) (stmt.Let c.in_ok-answer.answer (expr.Call path c.args.arguments) ∷ []) [] [] first c.in_ok-add_outside.ensures.adds in
     rw (← c.self.view_is) (record {
       import = name;
       stmts = subst (λ x. Appends old new (declares ∷ x ∷ []) []) (ap₂ (λ n p. stmt.Let n (expr.Call p c.args.arguments)) (sym c.in_ok-given.ensures) c.in_ok-path.ensures) both;
@@ -47,3 +48,6 @@ invariant_of-self-in_err-path c = still_whole c.in_ok-t.ensures.keeps c.self.inv
 
 pub invariant_of-self-2 : goal.invariant_of-self-2
 invariant_of-self-2 c = still_whole c.in_ok-t.ensures.keeps c.self.invariant
+
+pub add_outside-requires : goal.add_outside-requires
+add_outside-requires c = record { closed = c.in_ok-push_import.ensures.adds.opened ∙ ap (λ (b : FunctionBindgen). b.opened) c.self.view_is ∙ c.requires.closed }

@@ -9,7 +9,8 @@ use Rattle.func_gen.specs.BindgenSeen.{seen_bindgen}
 use Rattle.func_gen.proofs.CallRows.{declared_as}
 use Rattle.func_gen.proofs.WrittenSites.{record_found}
 use Rattle.func_gen.proofs.FieldOrder.{fields_named, locals_many}
-use Rattle.func_gen.proofs.KeptNames.{still_whole}
+use Rattle.func_gen.proofs.KeptNames.{added_whole, still_whole}
+use Rattle.func_gen.proofs.InwardForms.{apart_inward, operand_inward}
 use Rattle.func_gen.proofs.function_bindgen.FunctionBindgen.add_fields.Goals as goal
 
 pub let_fields-requires-clause-many : goal.let_fields-requires-clause-many
@@ -61,7 +62,8 @@ pub invariant_of-self-in_err-parts : goal.invariant_of-self-in_err-parts
 invariant_of-self-in_err-parts c = still_whole c.in_ok-names.ensures.keeps c.self.invariant
 
 pub invariant_of-self-in_err-push : goal.invariant_of-self-in_err-push
-invariant_of-self-in_err-push c = still_whole c.in_ok-names.ensures.keeps c.self.invariant
+invariant_of-self-in_err-push c = rw c.in_err-push.ensures.err (still_whole c.in_ok-names.ensures.keeps c.self.invariant)
 
 pub invariant_of-self-2 : goal.invariant_of-self-2
-invariant_of-self-2 c = still_whole c.in_ok-names.ensures.keeps c.self.invariant
+invariant_of-self-2 c =
+    rw c.in_ok-push.ensures.ok (added_whole c.self.inside.code _ (rw c.in_ok-parts.ensures (apart_inward c.args.e.now (operand_inward c.args.e.now c.requires.operand) _)) (still_whole c.in_ok-names.ensures.keeps c.self.invariant))

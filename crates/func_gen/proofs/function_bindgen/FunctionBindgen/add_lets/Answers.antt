@@ -1,11 +1,12 @@
-use Rattle.std.proofs.Common.{length, ap, ◌∙◌, sym, ◌≡◌, ℕ, subst}
+use Rattle.std.proofs.Common.{◌++◌, length, ap, ◌∙◌, sym, ◌≡◌, ℕ, subst}
 use Rattle.func_gen.specs.BindgenSeen.{seen_bindgen}
-use Rattle.func_gen.specs.FlushForms.{flush_prefix}
+use Rattle.func_gen.specs.FlushForms.{flush_prefix, lets_of}
 use Rattle.func_gen.specs.Scope.{names_at, Declares}
 use Rattle.func_gen.specs.PartForms.{names_from}
 use Rattle.func_gen.proofs.CallRows.{declared_as}
 use Rattle.func_gen.proofs.PartNames.{names_many}
-use Rattle.func_gen.proofs.KeptNames.{still_whole}
+use Rattle.func_gen.proofs.KeptNames.{added_whole, still_whole}
+use Rattle.func_gen.proofs.InwardForms.{lets_inward}
 use Rattle.func_gen.proofs.function_bindgen.FunctionBindgen.add_lets.Goals as goal
 
 pub push_lets-requires : goal.push_lets-requires
@@ -38,4 +39,9 @@ pub invariant_of-self-in_err-push_lets : goal.invariant_of-self-in_err-push_lets
 invariant_of-self-in_err-push_lets c = still_whole c.in_ok-names.ensures.keeps c.self.invariant
 
 pub invariant_of-self-2 : goal.invariant_of-self-2
-invariant_of-self-2 c = still_whole c.in_ok-names.ensures.keeps c.self.invariant
+invariant_of-self-2 c =
+    let lets = c.in_ok-push_lets.ensures ∙ ap (λ ss. ss ++ lets_of c.as_slice-2.result.now c.args.es.now) c.new-lets.ensures in
+    rw (c.in_ok-append.ensures.ok, lets) (added_whole c.self.inside.code _ (lets_inward c.as_slice-2.result.now c.args.es.now c.requires.operands) (still_whole c.in_ok-names.ensures.keeps c.self.invariant))
+
+pub invariant_of-self-in_err-append : goal.invariant_of-self-in_err-append
+invariant_of-self-in_err-append c = rw c.in_err-append.ensures.err (still_whole c.in_ok-names.ensures.keeps c.self.invariant)

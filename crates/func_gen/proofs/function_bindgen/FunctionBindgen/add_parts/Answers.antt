@@ -5,7 +5,8 @@ use Rattle.func_gen.specs.PartForms.{part_prefix, names_from}
 use Rattle.func_gen.specs.Scope.{names_at, Declares}
 use Rattle.func_gen.specs.BindgenSeen.{seen_bindgen}
 use Rattle.func_gen.proofs.CallRows.{declared_as}
-use Rattle.func_gen.proofs.KeptNames.{still_whole}
+use Rattle.func_gen.proofs.KeptNames.{added_whole, still_whole}
+use Rattle.func_gen.proofs.InwardForms.{apart_inward, operand_inward}
 use Rattle.func_gen.proofs.function_bindgen.FunctionBindgen.add_parts.Goals as goal
 
 pub returns-clause-adds : goal.returns-clause-adds
@@ -50,7 +51,8 @@ pub invariant_of-self-in_err-taken : goal.invariant_of-self-in_err-taken
 invariant_of-self-in_err-taken c = still_whole c.in_ok-names.ensures.keeps c.self.invariant
 
 pub invariant_of-self-in_err-push : goal.invariant_of-self-in_err-push
-invariant_of-self-in_err-push c = still_whole c.in_ok-names.ensures.keeps c.self.invariant
+invariant_of-self-in_err-push c = rw c.in_err-push.ensures.err (still_whole c.in_ok-names.ensures.keeps c.self.invariant)
 
 pub invariant_of-self-2 : goal.invariant_of-self-2
-invariant_of-self-2 c = still_whole c.in_ok-names.ensures.keeps c.self.invariant
+invariant_of-self-2 c =
+    rw c.in_ok-push.ensures.ok (added_whole c.self.inside.code _ (rw c.in_ok-taken.ensures (apart_inward c.args.e.now (operand_inward c.args.e.now c.requires.operand) _)) (still_whole c.in_ok-names.ensures.keeps c.self.invariant))

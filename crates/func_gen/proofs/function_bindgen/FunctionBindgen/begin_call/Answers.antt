@@ -5,8 +5,9 @@ use Rattle.func_gen.proofs.function_bindgen.FunctionBindgen.begin_call.Goals as 
 pub invariant_of-self : goal.invariant_of-self
 invariant_of-self c =
     record {
-      uncalled = rw (ap (λ (b : FunctionBindgen). b.opened) c.self.view_is ∙ c.requires.closed) tt;
+      blocks = rw (ap (λ (b : FunctionBindgen). b.opened) c.self.view_is ∙ c.requires.closed) tt;
       small = c.self.invariant.small;
       around = c.self.invariant.around;
       before = c.self.invariant.before;
+      inward = c.self.invariant.inward;
     }

@@ -4,7 +4,9 @@ use Rattle.func_gen.specs.BindgenSeen.{seen_bindgen}
 use Rattle.func_gen.specs.MatchForms.{match_names, result_names}
 use Rattle.func_gen.specs.Scope.{Declares, names_at}
 use Rattle.func_gen.proofs.CallRows.{declared_as}
-use Rattle.func_gen.proofs.KeptNames.{still_whole}
+use Rattle.func_gen.proofs.KeptNames.{added_whole, still_whole}
+use Rattle.wrapper_run.specs.Inward.{is_inward_expr}
+use Rattle.func_gen.proofs.InwardForms.{match_inward, operand_inward}
 use Rattle.func_gen.proofs.function_bindgen.FunctionBindgen.bind_match.Goals as goal
 
 pub returns : goal.returns
@@ -47,7 +49,8 @@ pub invariant_of-self-in_err-e : goal.invariant_of-self-in_err-e
 invariant_of-self-in_err-e c = still_whole c.in_ok-names.ensures.keeps c.self.invariant
 
 pub invariant_of-self-in_err-push : goal.invariant_of-self-in_err-push
-invariant_of-self-in_err-push c = still_whole c.in_ok-names.ensures.keeps c.self.invariant
+invariant_of-self-in_err-push c = rw c.in_err-push.ensures.err (still_whole c.in_ok-names.ensures.keeps c.self.invariant)
 
 pub invariant_of-self-2 : goal.invariant_of-self-2
-invariant_of-self-2 c = still_whole c.in_ok-names.ensures.keeps c.self.invariant
+invariant_of-self-2 c =
+    rw c.in_ok-push.ensures.ok (added_whole c.self.inside.code _ (match_inward c.in_ok-e.e (ap is_inward_expr c.in_ok-e.ensures ∙ operand_inward c.args.e.now c.requires.operand) c.in_ok-bound.bound c.args.arms c.requires.inward) (still_whole c.in_ok-names.ensures.keeps c.self.invariant))

@@ -1,15 +1,19 @@
-use Rattle.std.proofs.Common.{◌≡◌, ◌+◌, ℕ, suc, [], ◌∷◌, ◌++◌, length, replicate, reverse, ap, ap₂, ◌∙◌, subst, sym, arith}
-use Rattle.std.specs.List.{AllByRecursion}
+use Rattle.std.proofs.Common.{◌≡◌, ◌+◌, ℕ, suc, [], ◌∷◌, ◌++◌, length, replicate, reverse, ap, ap₂, ◌∙◌, subst, sym, arith, map}
+use Rattle.std.specs.List.{AllByRecursion, list_all}
 use Rattle.std.proofs.lemmas.List.{length-replicate, length-reverse, reverse-append}
 use Rattle.rust_tree.specs.declared.pattern.ArmPattern.TheVariants as arm
 use Rattle.rust_tree.specs.declared.stmt.MatchNames.TheVariants as names_of
 use Rattle.rust_tree.specs.declared.stmt.Stmt.TheVariants as stmt
-use Rattle.wrapper_run.specs.Inward.{is_inward}
+use Rattle.wrapper_run.specs.Inward.{is_inward, is_inward_expr}
 use Rattle.func_gen.specs.declared.function_bindgen.FinishedBlock.{FinishedBlock}
 use Rattle.func_gen.specs.Added.{Appends}
 use Rattle.func_gen.specs.MatchForms.{arm_of}
 use Rattle.func_gen.specs.Uses.{Uses}
 use Rattle.func_gen.proofs.BlocksThere.{all_back, blocks_there, none_used}
+use Rattle.func_gen.specs.InwardCode.{IsInwardBlock, is_inward_arm}
+use Rattle.func_gen.specs.LiftedCases.{freed_body}
+use Rattle.func_gen.proofs.InwardArms.{number_inward}
+use Rattle.func_gen.proofs.InwardForms.{match_inward, operand_inward}
 use Rattle.func_gen.proofs.function_bindgen.FunctionBindgen.free_cases.Goals as goal
 
 pub use_blocks-requires : goal.use_blocks-requires
@@ -24,11 +28,11 @@ freed_arms-requires-clause-none c =
     let none = none_used c.in_ok-blocks.blocks (c.args.count + 1) c.args.self.now c.use_blocks.new.self c.in_ok-blocks.ensures.uses c.requires.blocks in
     all_back None c.parted-last.result.1 (subst (AllByRecursion None) c.parted-last.ensures none).1
 
-pub freed_body-requires : goal.freed_body-requires
-freed_body-requires c =
+pub freed_body-body-requires : goal.freed_body-body-requires
+freed_body-body-requires c =
     let None = λ (b : FinishedBlock). b.results ≡ [] in
     let none = none_used c.in_ok-blocks.blocks (c.args.count + 1) c.args.self.now c.use_blocks.new.self c.in_ok-blocks.ensures.uses c.requires.blocks in
-    record { none = (subst (AllByRecursion None) c.parted-last.ensures none).0 }
+    record { none = (subst (AllByRecursion None) c.parted-last.ensures none).0; stmts = (subst (AllByRecursion IsInwardBlock) c.parted-last.ensures c.in_ok-blocks.ensures.inward).0 }
 
 pub returns : goal.returns
 returns c =
@@ -44,7 +48,7 @@ returns c =
     let next : c.args.count + 1 ≡ suc c.args.count = omega arith in
     let None = λ (b : FinishedBlock). b.results ≡ [] in
     let none = subst (AllByRecursion None) is (none_used blocks (c.args.count + 1) old mid uses c.requires.blocks) in
-    let are = c.in_ok-push.ensures.ok ∙ ap₂ (λ arms b. arms ++ arm_of arm.AnyOther b ∷ []) c.in_ok-arms.ensures.arms c.in_ok-body.ensures.body in
+    let are = c.in_ok-push.ensures.ok ∙ ap₂ (λ arms b. arms ++ arm_of arm.AnyOther b ∷ []) c.in_ok-arms.ensures.arms c.freed_body-body.ensures.body in
     record {
       used = blocks;
       mid = mid;
@@ -56,7 +60,17 @@ returns c =
       none = all_back None others none.1;
       none_last = none.0;
       inward = c.in_ok-arms.ensures.inward;
-      inward_last = ap is_inward (sym c.in_ok-body.ensures.body) ∙ c.in_ok-body.ensures.inward;
+      inward_last = ap is_inward (sym c.freed_body-body.ensures.body) ∙ c.freed_body-body.ensures.inward;
       adds = subst (λ ss. Appends mid new ss []) (ap₂ (λ e arms. stmt.Match names_of.Nothing e arms ∷ []) c.in_ok-e.ensures are) c.in_ok-add_effect.ensures.adds;
       scope = c.in_ok-add_effect.ensures.scope;
     }
+
+pub freed_arms-requires-clause-stmts : goal.freed_arms-requires-clause-stmts
+freed_arms-requires-clause-stmts c = all_back IsInwardBlock c.parted-last.result.1 (subst (AllByRecursion IsInwardBlock) c.parted-last.ensures c.in_ok-blocks.ensures.inward).1
+
+pub add_effect-requires : goal.add_effect-requires
+add_effect-requires c =
+    let are = c.in_ok-push.ensures.ok ∙ ap₂ (λ arms b. arms ++ arm_of arm.AnyOther b ∷ []) c.in_ok-arms.ensures.arms c.freed_body-body.ensures.body in
+    let last = ap is_inward (sym c.freed_body-body.ensures.body) ∙ c.freed_body-body.ensures.inward in
+    let each = ap (list_all is_inward_arm) are ∙ number_inward 0 (map freed_body (reverse c.parted-last.result.1)) arm.AnyOther (freed_body c.parted-last.result.0) c.in_ok-arms.ensures.inward last in
+    record { inward = match_inward c.in_ok-e.e (ap is_inward_expr c.in_ok-e.ensures ∙ operand_inward c.args.e.now c.requires.operand) names_of.Nothing _ each }

@@ -1,31 +1,15 @@
-use Rattle.std.proofs.Common.{[], ◌∷◌, ◌++◌, ap, subst, ◌∙◌, sym}
-use Rattle.rust_tree.specs.declared.expr.Expr.TheVariants as expr
-use Rattle.rust_tree.specs.declared.stmt.Stmt.TheVariants as stmt
-use Rattle.abi_bindgen.specs.declared.instruction.Instruction.TheVariants as instruction
-use Rattle.std.proofs.Common.{true}
-use Rattle.func_gen.specs.Added.{Appends}
-use Rattle.func_gen.specs.TextForms.{buffer_names, buffer_stmts, forgotten}
-use Rattle.func_gen.specs.Scope.{Takes}
-use Rattle.func_gen.proofs.Declared.{still_fresh}
-use Rattle.func_gen.proofs.Rows.{appends_both, emits_as}
-use Rattle.func_gen.proofs.TextRows.{give_row}
+use Rattle.std.proofs.Common.{[], ◌∷◌, ap, sym, ◌∙◌}
+use Rattle.std.specs.Option.{option_copied}
+use Rattle.std.proofs.lemmas.Result.{on_ok_weaker}
+use Rattle.func_gen.proofs.GivenTexts.{lent_instead, local_there}
 use Rattle.func_gen.proofs.function_bindgen.FunctionBindgen.give_text.Goals as goal
 
-pub returns : goal.returns
-returns c =
-    let types = c.args.resolve.now.types in
-    let old = c.args.self.now in
-    let mid = c.declare_three.new.self in
-    let pushed = c.push_buffer.new.self in
-    let new = c.add_effect.new.self in
-    let name = c.in_ok-name.name in
-    let t = c.in_ok-t.t in
-    let stmts = buffer_stmts t (expr.IntoBoxedBytes name) in
-    let scope = c.in_ok-add_effect.ensures.scope ∙ c.in_ok-push_buffer.ensures.scope in
-    let buffer = appends_both old mid pushed [] stmts [] [] c.in_ok-t.ensures.adds c.in_ok-push_buffer.ensures.adds in
-    let added = appends_both old pushed new stmts (stmt.Expr c.in_ok-call.call ∷ []) [] [] buffer c.in_ok-add_effect.ensures.adds in
-    emits_as types (instruction.StringLower true) _ _ _ _ _ _ c.in_ok-name.ensures c.in_ok-push_words.ensures
-    (give_row types old new name t
-    (subst (λ x. Appends old new (stmts ++ stmt.Expr x ∷ []) []) (c.in_ok-call.ensures ∙ ap forgotten c.in_ok-vec-2.ensures) added)
-    (still_fresh old mid new (buffer_names t) scope c.in_ok-t.ensures.fresh)
-    (subst (Takes old.scope (λ k. buffer_names k) t) (sym scope) c.in_ok-t.ensures.takes))
+pub hand_text-requires-clause-local : goal.hand_text-requires-clause-local
+hand_text-requires-clause-local c =
+    c.only_expr-e.ensures.only ∙ ap (λ x. x ∷ []) (local_there c.only_expr-e.result.now c.in-Some.name.now (sym c.local_of.ensures ∙ ap option_copied c.in-Some.is))
+
+pub returns-in-None : goal.returns-in-None
+returns-in-None c =
+    on_ok_weaker c.lend_text.result
+    (lent_instead c.args.resolve.now.types c.args.operands.now _ c.only_expr-e.result.now _ _ c.only_expr-e.ensures.only (sym c.local_of.ensures ∙ ap option_copied c.in-None.is))
+    c.lend_text.ensures

@@ -1,4 +1,4 @@
-use Rattle.std.proofs.Common.{[], ◌∷◌, refl, subst}
+use Rattle.std.proofs.Common.{[], ◌∷◌, refl, subst, ap, ◌∙◌}
 use Rattle.rust_tree.specs.declared.expr.Expr.TheVariants as expr
 use Rattle.rust_tree.specs.declared.stmt.Stmt.TheVariants as stmt
 use Rattle.wit_model.specs.declared.types.TypeDefKind.TheVariants as kind
@@ -7,6 +7,8 @@ use Rattle.func_gen.specs.Added.{Appends}
 use Rattle.func_gen.proofs.FlagsRows.{flags_row}
 use Rattle.func_gen.proofs.Rows.{emits_as, pushed}
 use Rattle.func_gen.proofs.WrittenSites.{written_kind}
+use Rattle.wrapper_run.specs.Inward.{is_inward_expr}
+use Rattle.func_gen.proofs.InwardForms.{flags_inward}
 use Rattle.func_gen.proofs.function_bindgen.FunctionBindgen.lift_flags.Goals as goal
 
 pub returns : goal.returns
@@ -25,3 +27,8 @@ flags_expr-requires c =
       site = written_kind c.args.resolve.now.types c.args.self.now.sites c.args.id.0 is.1.entry (kind.Flags is.0) is.1.stands is.1.kind written;
       reads = c.requires.sendable.operands;
     }
+
+pub add_let-requires : goal.add_let-requires
+add_let-requires c =
+    let k = c.in_ok-flags.ensures in
+    record { inward = ap is_inward_expr k.is ∙ flags_inward c.args.operands.now k.operands k.site }

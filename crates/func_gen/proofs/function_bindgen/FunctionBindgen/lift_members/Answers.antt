@@ -8,12 +8,18 @@ use Rattle.wrapper_run.proofs.LocalLemmas.{bytes_eq-same}
 use Rattle.func_gen.specs.declared.function_bindgen.FunctionBindgen.{FunctionBindgen}
 use Rattle.func_gen.specs.declared.scope.Scope.{Scope}
 use Rattle.func_gen.specs.Added.{Appends}
-use Rattle.func_gen.specs.LiftedCases.{LiftsVariantBy}
+use Rattle.func_gen.specs.LiftedCases.{LiftsVariantBy, last_body, lifted_bodies}
 use Rattle.func_gen.specs.Scope.{TakesAll, is_used, with_number}
 use Rattle.func_gen.specs.Uses.{Uses}
 use Rattle.func_gen.proofs.BlocksThere.{used_few}
 use Rattle.func_gen.proofs.KeptNames.{none_has}
 use Rattle.func_gen.proofs.Rows.{appends_both, no_code}
+use Rattle.std.specs.List.{list_all}
+use Rattle.rust_tree.specs.declared.pattern.ArmPattern.TheVariants as arm
+use Rattle.wrapper_run.specs.Inward.{is_inward_expr}
+use Rattle.func_gen.specs.InwardCode.{is_inward_arm}
+use Rattle.func_gen.proofs.InwardArms.{number_inward}
+use Rattle.func_gen.proofs.InwardForms.{match_inward, operand_inward}
 use Rattle.func_gen.proofs.function_bindgen.FunctionBindgen.lift_members.Goals as goal
 
 pub member_arms-requires-clause-few : goal.member_arms-requires-clause-few
@@ -66,3 +72,12 @@ returns c =
     }
     in
     (number, whole)
+
+pub add_effect-requires : goal.add_effect-requires
+add_effect-requires c =
+    let arms = c.in_ok-arms.ensures in
+    let cases = c.args.cases.now in
+    let number = c.in_ok-number.number in
+    let e = ap is_inward_expr c.in_ok-e.ensures ∙ operand_inward c.args.e.now c.requires.operand in
+    let each = ap (list_all is_inward_arm) arms.are ∙ number_inward 0 (lifted_bodies cases arms.first) (arm.Name number) (last_body number (length cases) c.args.last.now arms.last) arms.inward arms.inward_last in
+    record { inward = match_inward c.in_ok-e.e e (names_of.One c.in_ok-copy.copy) c.in_ok-arms.arms each }

@@ -1,6 +1,9 @@
-use Rattle.std.proofs.Common.{[], ◌∷◌, subst}
+use Rattle.std.proofs.Common.{[], ◌∷◌, subst, reverse, ap, ◌∙◌}
 use Rattle.func_gen.specs.Added.{Appends}
 use Rattle.func_gen.specs.MatchForms.{match_of}
+use Rattle.std.specs.List.{list_all}
+use Rattle.func_gen.specs.InwardCode.{is_inward_arm}
+use Rattle.func_gen.proofs.InwardArms.{lowered_inward}
 use Rattle.func_gen.proofs.function_bindgen.FunctionBindgen.lower_cases.Goals as goal
 
 pub returns : goal.returns
@@ -16,3 +19,8 @@ returns c =
       fresh = binds.fresh;
       takes = binds.takes;
     }
+
+pub bind_match-requires-clause-inward : goal.bind_match-requires-clause-inward
+bind_match-requires-clause-inward c =
+    let arms = c.in_ok-arms.ensures in
+    ap (list_all is_inward_arm) arms.are ∙ lowered_inward c.args.count c.args.cases.now (reverse arms.used) arms.fit

@@ -1,4 +1,4 @@
-use Rattle.std.proofs.Common.{◌++◌, ◌∙◌, ap, arith, length, replicate, subst, sym}
+use Rattle.std.proofs.Common.{refl, ◌++◌, ◌∙◌, ap, arith, length, replicate, subst, sym}
 use Rattle.abi_bindgen.specs.Instructions.{HasBlocks}
 use Rattle.abi_bindgen.specs.declared.instruction.Instruction.TheVariants as instruction
 use Rattle.func_gen.specs.declared.function_bindgen.FunctionBindgen.{FunctionBindgen}
@@ -9,7 +9,7 @@ use Rattle.func_gen.specs.PartForms.{locals_of}
 use Rattle.func_gen.specs.Written.{CanWrite}
 use Rattle.func_gen.proofs.CaseLowered.{variant_lowered}
 use Rattle.func_gen.proofs.CaseNames.{variant_count}
-use Rattle.func_gen.proofs.Rows.{emits_as}
+use Rattle.func_gen.proofs.PlainOperands.{emits_plainly}
 use Rattle.func_gen.proofs.function_bindgen.FunctionBindgen.lower_variant.Goals as goal
 
 pub variant_forms-requires-clause-site : goal.variant_forms-requires-clause-site
@@ -20,15 +20,15 @@ variant_forms-requires-clause-site c =
 pub lower_cases-requires : goal.lower_cases-requires
 lower_cases-requires c =
     let same = variant_count c.args.resolve.now.types c.as_slice.result.now c.args.id.0 c.in_ok-forms.forms c.in_ok-forms.ensures ∙ sym (ap length c.as_slice-2.ensures) in
-    record { operand = c.in_ok-e.ensures.operand; blocks = subst (λ k. HasBlocks func_meaning (replicate k c.args.count) c.args.self.now) same c.requires.sendable.suits.2 }
+    record { operand = c.only_expr-e.ensures.operand; blocks = subst (λ k. HasBlocks func_meaning (replicate k c.args.count) c.args.self.now) same c.requires.sendable.suits.2 }
 
 pub returns : goal.returns
 returns c =
     let types = c.args.resolve.now.types in
-    let e = c.in_ok-e.e.now in
+    let e = c.only_expr-e.result.now in
     let forms = c.in_ok-forms.forms in
     let names = c.in_ok-names.names in
     let lowers = subst (λ fs. LowersBy fs e c.args.count names c.args.self.now c.lower_cases.new.self) c.as_slice-2.ensures c.in_ok-names.ensures in
-    emits_as types (instruction.VariantLower c.args.id c.args.count) _ _ _ _ _ _ c.in_ok-e.ensures.only
+    emits_plainly types (instruction.VariantLower c.args.id c.args.count) _ _ _ _ _ _ refl c.only_expr-e.ensures.only
     (c.in_ok-push_locals.ensures ∙ ap (λ rs. rs ++ locals_of c.as_slice-3.result.now) c.requires.empty ∙ ap locals_of c.as_slice-3.ensures)
-    (variant_lowered types c.args.id c.args.count _ _ forms e names lowers c.in_ok-e.ensures.operand (omega arith) (subst (λ sites. AreVariantForms types sites c.args.id.0 forms) (c.as_slice.ensures ∙ ap (λ (b : FunctionBindgen). b.sites) c.self.view_is) c.in_ok-forms.ensures))
+    (variant_lowered types c.args.id c.args.count _ _ forms e names lowers c.only_expr-e.ensures.operand (omega arith) (subst (λ sites. AreVariantForms types sites c.args.id.0 forms) (c.as_slice.ensures ∙ ap (λ (b : FunctionBindgen). b.sites) c.self.view_is) c.in_ok-forms.ensures))

@@ -13,7 +13,7 @@ use Rattle.func_gen.proofs.function_bindgen.FunctionBindgen.point.Goals as goal
 pub returns : goal.returns
 returns c =
     let old = c.args.self.now in
-    let mid = c.add_let.new.self in
+    let mid = c.let_outside.new.self in
     let n = c.in_ok-name.name in
     let added = subst (λ e. Appends old mid (stmt.Let n e ∷ []) []) c.in_ok-pointer.ensures c.in_ok-name.ensures.adds in
     subst (λ asked. PointsTo func_meaning c.args.room (operand_of (expr.Local n)) old (record (seen_bindgen c.self.inside) { asked = asked })) (sym c.in_ok-push.ensures.ok)

@@ -4,6 +4,7 @@ use Rattle.std.proofs.lemmas.List.{length-replicate}
 use Rattle.func_gen.specs.declared.function_bindgen.FinishedBlock.{FinishedBlock}
 use Rattle.func_gen.specs.MatchForms.{is_lowerable, lowered_arms}
 use Rattle.func_gen.proofs.BlocksThere.{all_back, blocks_there, used_many}
+use Rattle.func_gen.specs.InwardCode.{IsInwardBlock}
 use Rattle.func_gen.proofs.function_bindgen.FunctionBindgen.use_arms.Goals as goal
 
 pub use_blocks-requires : goal.use_blocks-requires
@@ -26,3 +27,6 @@ returns c =
       fit = subst (λ blocks. list_all (is_lowerable c.args.count) (reverse blocks) ≡ true) same c.in_ok-arms.ensures.fit;
       are = c.in_ok-arms.ensures.arms ∙ ap (λ blocks. lowered_arms c.args.cases.now (reverse blocks)) same;
     }
+
+pub lowered_arms-requires-clause-inward : goal.lowered_arms-requires-clause-inward
+lowered_arms-requires-clause-inward c = subst (λ blocks. AllByRecursion IsInwardBlock (reverse blocks)) (sym c.into_vec-blocks.ensures) (all_back IsInwardBlock c.in_ok-used.used c.in_ok-used.ensures.inward)
