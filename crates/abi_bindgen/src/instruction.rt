@@ -1,3 +1,5 @@
+//! The instructions by which values are passed between Rust and core WebAssembly.
+
 use wit_layout::Bitcast;
 use wit_model::{Alignment, ArchitectureSize, Function, Handle, TypeId, WasmType, WitType};
 

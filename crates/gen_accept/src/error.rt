@@ -1,3 +1,5 @@
+//! Why a world is not built, or its options are refused.
+
 ghost use Rattle.std.specs.Prelude.{◌≡◌, IfOk};
 ghost use Rattle.gen_accept.specs.LackText.{lack_text};
 

@@ -1,3 +1,5 @@
+//! The options of the generator.
+
 ghost use Rattle.std.specs.Prelude.{◌≡◌, IfOk};
 
 use crate::try_copy::TryCopy;

@@ -1,3 +1,5 @@
+//! Entries of names and bytes, kept in byte order of the names.
+
 ghost use Rattle.std.specs.Prelude.{◌≡◌, ◌<◌, vec_len, IfOk, OnOk, OnErr};
 ghost use Rattle.gen_files.specs.Entries.{with_pushed};
 ghost use Rattle.gen_files.specs.Places.{is_before, place_of, has_name_at, with_bytes_at};

@@ -1,3 +1,5 @@
+//! The generator: from tables and options to the tree of a file and its text.
+
 ghost use Rattle.std.specs.Prelude.{◌≡◌, true, IfOk, OnErr};
 ghost use Rattle.rust_tree.specs.Text.{text};
 ghost use Rattle.rust_tree.specs.WellNamed.{are_well_named};

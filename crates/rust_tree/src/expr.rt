@@ -1,3 +1,5 @@
+//! Expressions of wrappers.
+
 use crate::path::Path;
 use crate::repr::Repr;
 use wit_model::{ArchitectureSize, Boxed, List, Text, WasmType};

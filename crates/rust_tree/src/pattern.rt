@@ -1,3 +1,5 @@
+//! What a `let` and the arm of a `match` take apart.
+
 use crate::path::Path;
 use wit_model::{List, Text};
 

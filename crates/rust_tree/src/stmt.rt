@@ -1,3 +1,5 @@
+//! Statements and blocks of wrappers.
+
 use crate::area::ReturnArea;
 use crate::expr::{Expr, SmallType};
 use crate::pattern::{ArmPattern, Pattern};

@@ -1,3 +1,5 @@
+//! Doc comments, line by line.
+
 ghost use Rattle.std.specs.Prelude.{◌≡◌, IfOk};
 ghost use Rattle.std.specs.Str.Lines.{lines};
 ghost use Rattle.type_defs.specs.Docs.{doc_lines, trimmed_docs};

@@ -1,3 +1,5 @@
+//! What the options say of definitions of types.
+
 use crate::ownership::Ownership;
 
 /// What the options of a generator say of the definitions of types.

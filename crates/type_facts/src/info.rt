@@ -1,3 +1,5 @@
+//! The facts that are known of a type.
+
 ghost use Rattle.std.specs.Prelude.{◌≡◌, ◌&&◌, not};
 
 /// The facts of a type. A type reaches itself, and what is reached by the types that it names, through aliases too and

@@ -1,3 +1,5 @@
+//! Marks on the types of a table.
+
 ghost use Rattle.std.specs.Prelude.{◌≡◌, length, replicate, slice_index_or, false, IfOk};
 ghost use Rattle.type_facts.specs.Passes.{Spreads, given, mark, mark_all, mark_from, mark_part};
 ghost use Rattle.wit_model.specs.Parts.{parts};

@@ -1,3 +1,5 @@
+//! What a type reaches: texts, lists, handles and resources.
+
 ghost use Rattle.std.specs.Prelude.{◌≡◌, length, IfOk};
 ghost use Rattle.type_facts.specs.Own.{is_number, is_string, is_list, is_resource, is_tuple, is_borrow_handle, is_own_handle, is_plain, nothing, own_of_primitive, own_of_kind};
 ghost use Rattle.type_facts.specs.Passes.{AreReaches, join, reach_of, reach_of_part, reach_of_kind};

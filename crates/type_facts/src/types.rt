@@ -1,3 +1,5 @@
+//! The facts of all types of a table, found in two passes.
+
 ghost use Rattle.std.specs.Prelude.{◌≡◌, ◌<◌, ◌↔◌, length, IsTrue, IfOk};
 ghost use Rattle.type_facts.specs.Facts.{IsAnalysis, IsAnalyzed, IsCanonical, IsInfoOf, type_count};
 ghost use Rattle.type_facts.specs.Passes.{AreEntries, entry_of};

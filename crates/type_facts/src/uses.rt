@@ -1,3 +1,5 @@
+//! Where types are used: lent, owned, or as errors.
+
 ghost use Rattle.std.specs.Prelude.{◌≡◌, IfOk};
 ghost use Rattle.std.specs.Option.{option_to_list};
 ghost use Rattle.type_facts.specs.Passes.{AreUses, mark_all, no_uses, with_marked};

@@ -1,3 +1,5 @@
+//! What a document asks for.
+
 ghost use Rattle.std.specs.Prelude.{◌≡◌};
 ghost use Rattle.wit_document.specs.Reads.{Reads};
 ghost use Rattle.wit_commands.specs.Input.{input_in, opts_of};

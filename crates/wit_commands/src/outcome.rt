@@ -1,3 +1,5 @@
+//! What a run of the program answers.
+
 use rust_tree::Bindings;
 
 /// What a run answers.

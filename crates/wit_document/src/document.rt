@@ -1,3 +1,5 @@
+//! From the bytes of a document to tables, world and options.
+
 ghost use Rattle.wit_document.specs.Reads.{Reads};
 ghost use Rattle.wit_document.specs.Document.{resolve_of, document, document_in};
 

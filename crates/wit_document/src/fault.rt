@@ -1,3 +1,5 @@
+//! Why bytes are no document.
+
 use thiserror::Error;
 use wit_model::OutOfMemory;
 

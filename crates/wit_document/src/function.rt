@@ -1,3 +1,5 @@
+//! Functions of a document.
+
 ghost use Rattle.std.specs.Prelude.{◌≡◌};
 ghost use Rattle.wit_document.specs.Function.{free_kind, bound_kind, bound_kind_of, kind_of, param_of, function_of};
 ghost use Rattle.wit_document.specs.View.{view};

@@ -1,3 +1,5 @@
+//! Names and docs of a document.
+
 ghost use Rattle.wit_document.specs.View.{view};
 ghost use Rattle.wit_document.specs.Reads.{Reads};
 ghost use Rattle.wit_document.specs.Name.{name_of, docs_in};

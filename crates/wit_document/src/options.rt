@@ -1,3 +1,5 @@
+//! Options of a document.
+
 ghost use Rattle.std.specs.Prelude.{◌≡◌};
 ghost use Rattle.wit_document.specs.Options.{no_options, options_of};
 

@@ -1,3 +1,5 @@
+//! How JSON values are read as texts, bools, options and lists.
+
 ghost use Rattle.std.specs.Prelude.{Option};
 ghost use Rattle.serde_json.specs.Find.{as_bool};
 ghost use Rattle.serde_json.specs.Data.{Data};

@@ -1,3 +1,5 @@
+//! Numbers, ids and types of a document.
+
 ghost use Rattle.std.specs.Prelude.{◌≡◌};
 ghost use Rattle.wit_document.specs.Types.{id_of, type_id_of, type_named, type_of};
 

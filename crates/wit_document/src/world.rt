@@ -1,3 +1,5 @@
+//! Worlds and packages of a document.
+
 ghost use Rattle.wit_document.specs.World.{world_id_of, package_id_of, package_of, world_of};
 
 use crate::fault::DocumentFault;

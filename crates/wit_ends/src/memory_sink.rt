@@ -1,3 +1,5 @@
+//! A sink in memory, for tests.
+
 ghost use Rattle.std.specs.Prelude.{◌≡◌, ◌≤◌, [], ◌↔◌, length, Contains, IsErr, IfOk, OnErr};
 ghost use Rattle.wit_ends.specs.Faults.{one_more};
 ghost use Rattle.wit_ends.specs.SinkState.{count_taken, after_failed, after_taken};

@@ -1,3 +1,5 @@
+//! A source in memory, for tests.
+
 ghost use Rattle.std.specs.Prelude.{◌≡◌, ◌<◌, ◌≤◌, [], ◌++◌, ◌↔◌, length, take, drop, Contains, IsErr, IfOk, OnErr};
 ghost use Rattle.wit_ends.specs.Faults.{one_more};
 ghost use Rattle.wit_ends.specs.SourceState.{count_given, after_failed, after_given};

@@ -1,3 +1,5 @@
+//! A writer of std as a sink.
+
 ghost use Rattle.std.specs.Prelude.{◌≡◌, ◌≤◌, length, IfOk, OnErr};
 ghost use Rattle.wit_ends.specs.Faults.{one_more, faults_after};
 

@@ -1,3 +1,5 @@
+//! A reader of std as a source.
+
 ghost use Rattle.std.specs.Prelude.{◌≡◌, ◌≤◌, length, IfOk, OnOk, OnErr};
 ghost use Rattle.wit_ends.specs.Faults.{one_more};
 

@@ -1,3 +1,5 @@
+//! Writes all bytes to a sink.
+
 ghost use Rattle.std.specs.Prelude.{◌≡◌, ℕ, ◌<◌, ◌≤◌, length, take, OnOk, OnErr};
 ghost use Rattle.std.specs.Io.KnownBytes.{append_known};
 ghost use Rattle.wit_ends.specs.Faults.{Rose};

@@ -1,3 +1,5 @@
+//! Casts between words of core types.
+
 ghost use Rattle.std.specs.Prelude.{◌≡◌};
 ghost use Rattle.wit_layout.specs.Cast.{cast};
 ghost use Rattle.wit_layout.specs.Join.{join, AreInOrder};

@@ -1,3 +1,5 @@
+//! The join of two core types.
+
 ghost use Rattle.std.specs.Prelude.{◌≡◌};
 ghost use Rattle.wit_layout.specs.Join.{join};
 

@@ -1,3 +1,5 @@
+//! Why a table has no sizes.
+
 use thiserror::Error;
 use wit_model::{OutOfMemory, TypeId};
 

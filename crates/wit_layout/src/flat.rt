@@ -1,3 +1,5 @@
+//! The core words of types and functions.
+
 ghost use Rattle.std.specs.Prelude.{IsTrue, length};
 ghost use Rattle.wit_model.specs.TypeOrder.{type_below};
 ghost use Rattle.wit_model.specs.WellFormed.{IsWellFormed};

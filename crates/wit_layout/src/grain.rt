@@ -1,3 +1,5 @@
+//! Alignments, in bytes.
+
 ghost use Rattle.std.specs.Prelude.{◌≡◌, ◌^◌, ◌<◌, ◌≤◌, max};
 ghost use Rattle.wit_layout.specs.inside.Grain.{exponent};
 ghost use Rattle.wit_model.specs.Size.{alignment_at};

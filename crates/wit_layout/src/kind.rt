@@ -1,3 +1,5 @@
+//! What each kind of type takes in memory.
+
 ghost use Rattle.std.specs.Prelude.{◌≡◌, ◌+◌, ◌*◌, ◌^◌, ◌<◌, ◌≤◌, length, IfOk, IsTrue};
 ghost use Rattle.wit_layout.specs.Extent.{
   extent,

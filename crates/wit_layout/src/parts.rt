@@ -1,3 +1,5 @@
+//! The parts of a type together: their end, and the greatest of their sizes and alignments.
+
 ghost use Rattle.std.specs.Prelude.{◌≡◌, ◌+◌, ◌-◌, ◌^◌, ◌<◌, ◌≤◌};
 ghost use Rattle.wit_layout.specs.Extent.{extent, place, greater, record_of_grain, discriminant_grain, payload_place, variant_extent};
 ghost use Rattle.wit_layout.specs.inside.Grain.{exponent};

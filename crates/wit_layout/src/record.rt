@@ -1,3 +1,5 @@
+//! Sizes and places of records of several types.
+
 ghost use Rattle.std.specs.Prelude.{◌≡◌, ◌^◌, ◌<◌, ◌≤◌, IsTrue, List, Some, length, nat_lt, slice_get, slice_index};
 ghost use Rattle.wit_model.specs.declared.types.TypeDef.{TypeDef};
 ghost use Rattle.wit_layout.specs.Extent.{extent, end, greatest, record_of_grain};

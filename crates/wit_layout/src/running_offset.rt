@@ -1,3 +1,5 @@
+//! A place that goes along the fields of a record.
+
 ghost use Rattle.wit_layout.specs.inside.Spread.{IsSize};
 
 use crate::spread::Spread;

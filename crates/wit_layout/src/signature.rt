@@ -1,3 +1,5 @@
+//! The core signature of a function.
+
 ghost use Rattle.std.specs.Prelude.{◌≡◌, IsTrue, List, Some, length, slice_get, take};
 ghost use Rattle.wit_model.specs.declared.function.Function.{Function};
 ghost use Rattle.wit_model.specs.declared.types.TypeDef.{TypeDef};

@@ -1,3 +1,5 @@
+//! The sizes, alignments and offsets of all types of a table.
+
 ghost use Rattle.std.specs.Prelude.{◌≡◌, ◌<◌, length, IfOk, IfErr, OnOk, IsTrue, None, slice_get};
 ghost use Rattle.wit_model.specs.Size.{alignment_at};
 ghost use Rattle.wit_model.specs.WellFormed.{IsWellFormed};

@@ -1,3 +1,5 @@
+//! Counts of bytes at both widths of a pointer.
+
 ghost use Rattle.std.specs.Prelude.{◌≡◌, ◌+◌, ◌^◌, ◌≤◌, ◌<◌, max};
 ghost use Rattle.wit_layout.specs.inside.Grain.{exponent};
 ghost use Rattle.wit_layout.specs.inside.Spread.{IsSize};

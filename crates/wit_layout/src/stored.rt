@@ -1,3 +1,5 @@
+//! What a type takes in memory, where it is not too large.
+
 ghost use Rattle.std.specs.Prelude.{◌≡◌, ◌≢◌, ◌^◌, ◌<◌, ◌≤◌};
 ghost use Rattle.wit_layout.specs.Extent.{extent, fixed_extent};
 ghost use Rattle.wit_layout.specs.inside.Grain.{exponent};

@@ -1,3 +1,5 @@
+//! What is kept of the layout of a type.
+
 ghost use Rattle.std.specs.Prelude.{◌≡◌, length, IfOk, IsTrue};
 ghost use Rattle.wit_model.specs.Numbered.{kind_numbered};
 ghost use Rattle.wit_model.specs.TypeOrder.{parts_below};

@@ -1,3 +1,5 @@
+//! The first core words of a type.
+
 ghost use Rattle.std.specs.Prelude.{◌≡◌, ◌≤◌, ◌-◌, [], ◌∷◌, ◌++◌, length, take, nat_le, slice_get};
 
 use crate::core_type::join;

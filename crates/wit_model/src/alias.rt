@@ -1,3 +1,5 @@
+//! The type behind aliases.
+
 ghost use Rattle.std.specs.Prelude.{◌≡◌, None};
 ghost use Rattle.wit_model.specs.Dealias.{aliased, next_alias, dealias};
 ghost use Rattle.wit_model.specs.TypeOrder.{GoesDown};

@@ -1,3 +1,5 @@
+//! The types behind the aliases of a whole table.
+
 ghost use Rattle.std.specs.Prelude.{◌≡◌, length, IfOk};
 ghost use Rattle.wit_model.specs.Dealias.{dealias};
 ghost use Rattle.wit_model.specs.Ends.{AreEnds, HasEnds, end_of, end_of_kind};

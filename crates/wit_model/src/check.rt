@@ -1,3 +1,5 @@
+//! The check of the tables: the first rule that they break.
+
 ghost use Rattle.std.specs.Prelude.{◌≡◌, None, IsTrue, OnOk, IfNone, IfOk, IfErr};
 ghost use Rattle.wit_model.specs.TypeOrder.{GoesDown, first_out_of_order};
 ghost use Rattle.wit_model.specs.Members.{first_without_members};

@@ -1,3 +1,5 @@
+//! What a constructor of a resource gives.
+
 ghost use Rattle.std.specs.Prelude.{◌≡◌, slice_get};
 ghost use Rattle.wit_model.specs.Constructor.{return_of_kind, return_of_entry, constructor_return};
 ghost use Rattle.wit_model.specs.TypeOrder.{GoesDown};

@@ -1,3 +1,5 @@
+//! Whether texts are distinct.
+
 ghost use Rattle.std.specs.Prelude.{◌≡◌, IfOk, map};
 ghost use Rattle.wit_model.specs.Distinct.{is_distinct};
 

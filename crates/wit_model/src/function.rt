@@ -1,3 +1,5 @@
+//! Functions of worlds and interfaces.
+
 use crate::list::List;
 use crate::name::{Docs, Name, TypeId};
 use crate::types::WitType;

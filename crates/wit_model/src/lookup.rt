@@ -1,3 +1,5 @@
+//! The entries of the tables, by their ids.
+
 ghost use Rattle.std.specs.Prelude.{◌≡◌, slice_get};
 ghost use Rattle.std.specs.Option.{option_copied};
 

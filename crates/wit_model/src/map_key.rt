@@ -1,3 +1,5 @@
+//! Which types may be the keys of maps.
+
 ghost use Rattle.std.specs.Prelude.{◌≡◌, ◌<◌, not, length, position, IfSome};
 ghost use Rattle.wit_model.specs.MapKey.{is_key_primitive, is_key_alias, is_key, has_good_key};
 ghost use Rattle.wit_model.specs.Ends.{HasEnds};

@@ -1,3 +1,5 @@
+//! Kinds of types that must have a member.
+
 ghost use Rattle.std.specs.Prelude.{◌≡◌, ◌<◌, not, length, position, IfSome};
 ghost use Rattle.wit_model.specs.Members.{has_one, has_members};
 

@@ -1,3 +1,5 @@
+//! Names, docs and ids.
+
 ghost use Rattle.std.specs.Prelude.{◌≡◌, IfOk};
 
 use crate::memory::OutOfMemory;

@@ -1,3 +1,5 @@
+//! Whether all tables and lists are short enough to be numbered by 32 bits.
+
 ghost use Rattle.std.specs.Prelude.{◌≡◌};
 ghost use Rattle.std.specs.List.{list_all};
 ghost use Rattle.wit_model.specs.Numbered.{

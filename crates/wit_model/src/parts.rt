@@ -1,3 +1,5 @@
+//! Which types a type names.
+
 ghost use Rattle.std.specs.Prelude.{◌≡◌, ◌<◌, length, slice_get, Some};
 ghost use Rattle.wit_model.specs.Parts.{handle_target, parts};
 

@@ -1,3 +1,5 @@
+//! The place of an entry of a table.
+
 ghost use Rattle.std.specs.Prelude.{◌≡◌, ◌<◌, ◌^◌};
 ghost use Rattle.std.specs.Option.{option_map, ForSome};
 

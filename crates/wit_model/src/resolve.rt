@@ -1,3 +1,5 @@
+//! The tables of a resolved world, and the rules that they keep.
+
 use crate::list::List;
 use crate::memory::OutOfMemory;
 use crate::types::TypeDef;

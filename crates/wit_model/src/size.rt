@@ -1,3 +1,5 @@
+//! Sizes and alignments at every width of a pointer.
+
 ghost use Rattle.std.specs.Prelude.{◌≡◌, ◌+◌, ◌-◌, ◌*◌, ◌/◌, ◌%◌, ◌^◌, ◌<◌, ◌≤◌, ◌==◌, ◌&&◌, IsTrue, max};
 ghost use Rattle.wit_model.specs.Size.{
   bytes_at,

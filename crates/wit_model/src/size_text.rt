@@ -1,3 +1,5 @@
+//! A size as a Rust expression.
+
 ghost use Rattle.std.specs.Prelude.{◌≡◌, ◌++◌, IfOk, OnOk, false, decimal};
 ghost use Rattle.wit_model.specs.SizeText.{mark_text, pointers_text, bracketed, size_text, alignment_text};
 

@@ -1,3 +1,5 @@
+//! Whether each type names only types before it.
+
 ghost use Rattle.std.specs.Prelude.{◌≡◌, ◌<◌, not, length, position, IfSome};
 ghost use Rattle.std.specs.List.{enumerate_from};
 ghost use Rattle.wit_model.specs.TypeOrder.{type_below, payload_below, parts_below};

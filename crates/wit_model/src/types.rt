@@ -1,3 +1,5 @@
+//! Types of the tables.
+
 use crate::list::List;
 use crate::name::{Docs, InterfaceId, Name, TypeId, WorldId};
 

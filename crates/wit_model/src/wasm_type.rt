@@ -1,3 +1,5 @@
+//! Core types.
+
 /// A core type. `Pointer` and `Length` have the pointer's width, and `PointerOrI64` holds either.
 #[derive(Clone, Copy, Debug, PartialEq, Eq)]
 pub enum WasmType {

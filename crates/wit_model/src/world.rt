@@ -1,3 +1,5 @@
+//! Packages and worlds.
+
 use crate::function::Function;
 use crate::list::List;
 use crate::name::{Docs, InterfaceId, Name, PackageId, TypeId};

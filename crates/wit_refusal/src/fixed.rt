@@ -1,3 +1,5 @@
+//! The lines that take no memory.
+
 ghost use Rattle.std.specs.Prelude.{◌≡◌};
 ghost use Rattle.wit_refusal.specs.Line.{line_of};
 ghost use Rattle.wit_refusal.specs.declared.refusal.Refusal.TheVariants as refusal;

@@ -1,3 +1,5 @@
+//! The line for a refusal of the generator.
+
 ghost use Rattle.std.specs.Prelude.{◌≡◌, ◌++◌, OnOk};
 ghost use Rattle.wit_refusal.specs.Line.{gen_line_of, invalid_option_line, invalid_world_line, missing_with_line, name_clash_line, too_large_line, unsupported_line, unused_chainable_line, unused_selector_line, unused_with_line};
 

@@ -1,3 +1,5 @@
+//! Numbers of rules, and words for tables.
+
 ghost use Rattle.std.specs.Prelude.{◌≡◌};
 ghost use Rattle.wit_refusal.specs.Names.{rule_number_of, table_text};
 

@@ -1,3 +1,5 @@
+//! Quoted and escaped texts in lines.
+
 ghost use Rattle.std.specs.Prelude.{◌≡◌, ◌++◌, OnOk};
 ghost use Rattle.std.specs.Char.{encode_utf8};
 ghost use Rattle.std.specs.List.{flat_map, join_by};

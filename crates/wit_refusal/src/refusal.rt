@@ -1,3 +1,5 @@
+//! Why the program makes no file, and the line that tells it.
+
 use crate::gen_line::push_gen_line;
 use crate::status::gen_status;
 use crate::word::{Word, put};

@@ -1,3 +1,5 @@
+//! Exit statuses.
+
 ghost use Rattle.std.specs.Prelude.{◌≡◌};
 ghost use Rattle.wit_refusal.specs.Status.{gen_status_of};
 

@@ -1,3 +1,5 @@
+//! Fixed pieces of lines.
+
 ghost use Rattle.std.specs.Prelude.{◌≡◌, ◌++◌, OnOk};
 ghost use Rattle.wit_refusal.specs.Word.{word};
 

@@ -1,3 +1,5 @@
+//! What the other side of a call answers.
+
 use crate::block::Block;
 use crate::heap::Heap;
 use crate::value::RustValue;

@@ -1,3 +1,5 @@
+//! What an answer does to a heap.
+
 ghost use Rattle.std.specs.Prelude.{◌≡◌, ◌≤◌, nat_lt, filter, position, IfOk, OnOk};
 ghost use Rattle.wrapper_data.specs.Heap.{covers};
 ghost use Rattle.wrapper_data.specs.Answered.{answered, with_block, with_blocks, with_cell, with_writes, written_block, written_byte};

@@ -1,3 +1,5 @@
+//! Blocks of memory.
+
 ghost use Rattle.std.specs.Prelude.{◌≡◌, ◌+◌, IfOk};
 ghost use Rattle.wrapper_data.specs.Heap.{are_cells, covers, is_block, overlaps, overlaps_any};
 

@@ -1,3 +1,5 @@
+//! Requests for memory, and what the allocator answers.
+
 use wit_model::List;
 
 /// What the allocator answers to a request.

@@ -1,3 +1,5 @@
+//! Heaps: the blocks of a linear memory.
+
 ghost use Rattle.std.specs.Prelude.{◌≡◌, IfOk};
 ghost use Rattle.std.specs.List.{list_all};
 ghost use Rattle.wrapper_data.specs.Heap.{are_apart, is_block, is_heap};

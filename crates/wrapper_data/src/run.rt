@@ -1,3 +1,5 @@
+//! What a run shows: its calls, and why it ended.
+
 use crate::choice::Request;
 use crate::heap::Heap;
 use crate::value::RustValue;

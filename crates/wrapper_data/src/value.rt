@@ -1,3 +1,5 @@
+//! Values of the Rust side of a wrapper.
+
 ghost use Rattle.std.specs.Prelude.{◌≡◌, IfOk};
 
 use std::alloc::Global;

@@ -1,3 +1,5 @@
+//! Laws of faithful wrappers.
+
 ghost use Rattle.wrapper_faithful.specs.KeptHeaps.{ExportKeepsHeap, ImportKeepsHeap, PostReturnKeepsHeap};
 ghost use Rattle.wrapper_faithful.specs.Laws.{AllCallsCount, NothingIsDropped, RoundLeaves, RunLeaves};
 

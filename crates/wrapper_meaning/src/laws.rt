@@ -1,3 +1,5 @@
+//! Laws of representation and layout.
+
 ghost use Rattle.wrapper_meaning.specs.Laws.{BufferIsItsWords, FewerAreAPart, LayoutIsTree, ListIsItsElements, MadeIsLent, MemoryDetermines, MemoryHasNoBlocks, PlainIsAlike, PlainIsCanonical, PostReturnLeaves, ResultHasNoBlocks, RustValueDetermines, RustValueHasNoBlocks, SameBlocksArePermuted, SameRequestsArePermuted, SettledIsDistinct, ShapeIsByKind, SignatureIsByShapes, WordsDetermine};
 
 /// The layout of a type's shape is the tree that `wit_layout` has for the type.

@@ -1,3 +1,5 @@
+//! The run of an import's wrapper.
+
 ghost use Rattle.std.specs.Prelude.{◌≡◌, ◌++◌, ◌<◌, IfOk, IsSome, OnOk, Some, option_map, slice_get};
 ghost use Rattle.std.specs.Option.{option_copied};
 ghost use Rattle.rust_tree.specs.Tree.{wrappers_of};

@@ -1,3 +1,5 @@
+//! The text of a return area.
+
 ghost use Rattle.std.specs.Prelude.{◌≡◌, ◌++◌, OnOk};
 ghost use Rattle.rust_tree.specs.CodeText.{align_text, area_text, area_type_text, area_value_text};
 ghost use Rattle.rust_tree.specs.ExportText.{static_area_text};

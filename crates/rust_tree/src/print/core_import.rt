@@ -1,3 +1,5 @@
+//! The text of the declaration of a core import.
+
 ghost use Rattle.std.specs.Prelude.{◌≡◌, ◌++◌, OnOk};
 ghost use Rattle.std.specs.List.{flat_map};
 ghost use Rattle.rust_tree.specs.CodeText.{core_param_text, core_result_text, core_signature_text, linked_text, unlinked_text};

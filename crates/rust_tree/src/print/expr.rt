@@ -1,3 +1,5 @@
+//! The text of an expression.
+
 ghost use Rattle.std.specs.Prelude.{◌≡◌, ◌++◌, OnOk, decimal, map};
 ghost use Rattle.rust_tree.specs.CodeText.{arguments_text, array_text, bracket, capacity_text, cast_type_text, expr_fields, expr_spelled, expr_text, expr_words, fields_text, flags_bits_text, flags_of_words_text, listed_text, method_text, parts_text, path_text, place_text, receiver_text, repr_type_text, small_type_text};
 ghost use Rattle.rust_tree.specs.Word.{expr_word, flags_word, sign};

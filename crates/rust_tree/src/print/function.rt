@@ -1,3 +1,5 @@
+//! The text of a function, and of doc lines and parameters.
+
 ghost use Rattle.std.specs.Prelude.{◌≡◌, ◌++◌, OnOk};
 ghost use Rattle.std.specs.List.{flat_map, join_by};
 ghost use Rattle.rust_tree.specs.CodeText.{doc_text};

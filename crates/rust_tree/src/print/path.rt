@@ -1,3 +1,5 @@
+//! The text of a path.
+
 ghost use Rattle.std.specs.Prelude.{◌≡◌, ◌++◌, OnOk};
 ghost use Rattle.std.specs.List.{join_by};
 ghost use Rattle.rust_tree.specs.CodeText.{lead_text, path_text, supers_text};

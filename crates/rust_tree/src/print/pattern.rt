@@ -1,3 +1,5 @@
+//! The text of patterns.
+
 ghost use Rattle.std.specs.Prelude.{◌≡◌, ◌++◌, OnOk};
 ghost use Rattle.rust_tree.specs.CodeText.{arm_pattern_text, commas_text, fields_text, path_text, pattern_text};
 ghost use Rattle.rust_tree.specs.Word.{sign};

@@ -1,3 +1,5 @@
+//! The text of statements and blocks.
+
 ghost use Rattle.std.specs.Prelude.{◌≡◌, ◌++◌, OnOk};
 ghost use Rattle.std.specs.List.{flat_map};
 ghost use Rattle.rust_tree.specs.CodeText.{arm_text, block_text, let_parts_text, let_text, narrowed_text, small_store_text, stmt_text, store_text, tail_text};

@@ -1,3 +1,5 @@
+//! The text of the trait of exports.
+
 ghost use Rattle.std.specs.Prelude.{◌≡◌, ◌++◌, OnOk};
 ghost use Rattle.std.specs.List.{flat_map};
 ghost use Rattle.rust_tree.specs.Text.{trait_fn_text, trait_text};

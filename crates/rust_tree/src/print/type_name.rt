@@ -1,3 +1,5 @@
+//! The text of types.
+
 ghost use Rattle.std.specs.Prelude.{◌≡◌, ◌++◌, OnOk, map};
 ghost use Rattle.rust_tree.specs.CodeText.{array_type_text, cast_type_text, core_type_text, option_text, primitive_text, repr_type_text, small_type_text, tuple_text, type_text};
 

@@ -1,3 +1,5 @@
+//! Which traits a definition derives.
+
 ghost use Rattle.std.specs.Prelude.{◌≡◌, IfOk, map};
 ghost use Rattle.type_defs.specs.Derives.{clone_name, copy_name, derives_of, enum_derives};
 ghost use Rattle.type_defs.specs.Paths.{local_path};

@@ -1,3 +1,5 @@
+//! The definition of an enum.
+
 ghost use Rattle.std.specs.Prelude.{◌≡◌, IfOk, map};
 ghost use Rattle.type_defs.specs.EnumDef.{enum_case, enum_error, enum_item, enum_repr, error_case};
 ghost use Rattle.rust_tree.specs.Ident.{type_ident};

@@ -1,3 +1,5 @@
+//! The definition of a flags type.
+
 ghost use Rattle.std.specs.Prelude.{◌≡◌, IfOk, map};
 ghost use Rattle.type_defs.specs.FlagsDef.{flags_item, flags_member, flags_repr};
 ghost use Rattle.rust_tree.specs.Ident.{type_ident};

@@ -1,3 +1,5 @@
+//! The definition of a named option.
+
 ghost use Rattle.std.specs.Prelude.{◌≡◌, IfOk};
 ghost use Rattle.type_defs.specs.Defined.{alias_item};
 ghost use Rattle.type_defs.specs.PartType.{part_type};

@@ -1,3 +1,5 @@
+//! The definition of a record.
+
 ghost use Rattle.std.specs.Prelude.{◌≡◌, IfOk, map};
 ghost use Rattle.type_defs.specs.Defined.{field_item, record_item};
 ghost use Rattle.rust_tree.specs.Ident.{type_ident};

@@ -1,3 +1,5 @@
+//! The definition of a named tuple.
+
 ghost use Rattle.std.specs.Prelude.{◌≡◌, IfOk, map};
 ghost use Rattle.type_defs.specs.Defined.{alias_item};
 ghost use Rattle.type_defs.specs.PartType.{part_type};

@@ -1,3 +1,5 @@
+//! The definition of a variant.
+
 ghost use Rattle.std.specs.Prelude.{◌≡◌, IfOk, map};
 ghost use Rattle.std.specs.Option.{option_map};
 ghost use Rattle.type_defs.specs.PartType.{part_type};

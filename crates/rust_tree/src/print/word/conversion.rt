@@ -1,3 +1,5 @@
+//! Fixed words of the conversions of `_rt`.
+
 ghost use Rattle.std.specs.Prelude.{◌≡◌, ◌++◌, OnOk};
 ghost use Rattle.rust_tree.specs.Word.{conversion_word};
 

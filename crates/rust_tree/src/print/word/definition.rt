@@ -1,3 +1,5 @@
+//! Fixed words of definitions of types, and of types.
+
 ghost use Rattle.std.specs.Prelude.{◌≡◌, ◌++◌, OnOk};
 ghost use Rattle.rust_tree.specs.Word.{definition_word};
 

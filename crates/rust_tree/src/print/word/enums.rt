@@ -1,3 +1,5 @@
+//! Fixed words of definitions of enums and variants.
+
 ghost use Rattle.std.specs.Prelude.{◌≡◌, ◌++◌, OnOk};
 ghost use Rattle.rust_tree.specs.Word.{enum_word};
 

@@ -1,3 +1,5 @@
+//! Fixed words of the wrappers of exports.
+
 ghost use Rattle.std.specs.Prelude.{◌≡◌, ◌++◌, OnOk};
 ghost use Rattle.rust_tree.specs.Word.{export_word};
 

@@ -1,3 +1,5 @@
+//! Fixed words of expressions.
+
 ghost use Rattle.std.specs.Prelude.{◌≡◌, ◌++◌, OnOk};
 ghost use Rattle.rust_tree.specs.Word.{expr_word};
 

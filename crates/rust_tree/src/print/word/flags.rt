@@ -1,3 +1,5 @@
+//! Fixed words of flags.
+
 ghost use Rattle.std.specs.Prelude.{◌≡◌, ◌++◌, OnOk};
 ghost use Rattle.rust_tree.specs.Word.{flags_word};
 

@@ -1,3 +1,5 @@
+//! Fixed words of the declaration of a core import.
+
 ghost use Rattle.std.specs.Prelude.{◌≡◌, ◌++◌, OnOk};
 ghost use Rattle.rust_tree.specs.Word.{import_word};
 

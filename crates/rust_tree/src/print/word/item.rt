@@ -1,3 +1,5 @@
+//! Fixed words of the file and of its functions and traits.
+
 ghost use Rattle.std.specs.Prelude.{◌≡◌, ◌++◌, OnOk};
 ghost use Rattle.rust_tree.specs.Word.{item_word};
 

@@ -1,3 +1,5 @@
+//! Fixed words of the items of `_rt` that lift a core value.
+
 ghost use Rattle.std.specs.Prelude.{◌≡◌, ◌++◌, OnOk};
 ghost use Rattle.rust_tree.specs.Word.{lift_word};
 

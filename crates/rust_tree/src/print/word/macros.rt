@@ -1,3 +1,5 @@
+//! Fixed words of the macros that export functions.
+
 ghost use Rattle.std.specs.Prelude.{◌≡◌, ◌++◌, OnOk};
 ghost use Rattle.rust_tree.specs.Word.{macro_word};
 

@@ -1,3 +1,5 @@
+//! Marks, and small words that stand in many places.
+
 ghost use Rattle.std.specs.Prelude.{◌≡◌, ◌++◌, OnOk};
 ghost use Rattle.rust_tree.specs.Word.{sign};
 

@@ -1,3 +1,5 @@
+//! Fixed words of a local that is written later.
+
 ghost use Rattle.std.specs.Prelude.{◌≡◌, ◌++◌, OnOk};
 ghost use Rattle.rust_tree.specs.Word.{slot_word};
 
