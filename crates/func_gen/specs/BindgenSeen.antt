@@ -4,12 +4,12 @@ use Rattle.func_gen.specs.BindgenView.{BindgenView}
 
 abbrev pub seen_bindgen : Inside → BindgenView
 seen_bindgen b = record {
-  sizes = b.sizes;
+  sizes = b.tables.now.sizes;
   import = b.import;
   home = b.home;
   area = b.area;
   params = b.params;
-  sites = b.sites;
+  sites = b.tables.now.sites;
   scope = b.scope;
   code = b.code;
   opened = b.opened;

@@ -51,7 +51,7 @@ pub(crate) fn append(
     Ok(())
 }
 
-impl FunctionBindgen {
+impl FunctionBindgen<'_> {
     /// An item of `_rt` is named.
     pub(crate) fn ask(&mut self, item: RuntimeItem) -> Result<(), OutOfMemory>
         ensures asks { OnOk result (Appends self.old self.new [] (item ∷ [])) }

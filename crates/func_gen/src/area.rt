@@ -13,7 +13,7 @@ use abi_bindgen::Asked;
 use rust_tree::Expr;
 use wit_model::OutOfMemory;
 
-impl FunctionBindgen {
+impl FunctionBindgen<'_> {
     /// The address of the area: of an import's, which is a local, or of the file's static one.
     fn area_pointer(&self) -> Result<Expr, OutOfMemory>
         ensures { IfOk result (λ e. e ≡ area_pointer self.now) }

@@ -48,7 +48,7 @@ impl Scope {
     }
 }
 
-impl FunctionBindgen {
+impl FunctionBindgen<'_> {
     /// The code so far is suspended, and the names of the block get one number.
     fn suspend(&mut self) -> Result<(), OutOfMemory>
         ensures { OnOk result (Suspends self.old self.new) }

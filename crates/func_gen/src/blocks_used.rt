@@ -41,7 +41,7 @@ pub(crate) fn parted(blocks: List<FinishedBlock>) -> (FinishedBlock, List<Finish
     (block, List::from_vec(left))
 }
 
-impl FunctionBindgen {
+impl FunctionBindgen<'_> {
     /// So many blocks that were finished last, the last one first, which are kept no more. The names that were used when they were opened
     /// are used still, and their code is inward.
     pub(crate) fn use_blocks(&mut self, count: usize) -> Result<List<FinishedBlock>, OutOfMemory>

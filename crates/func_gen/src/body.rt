@@ -2,13 +2,12 @@
 
 ghost use Rattle.std.specs.Prelude.{◌≡◌, ◌≤◌, [], true, length, IfSome};
 ghost use Rattle.std.specs.List.{AllByRecursion};
-ghost use Rattle.func_gen.specs.Body.{Gives, IsBodyOf, greater, needed, tables_of};
+ghost use Rattle.func_gen.specs.Body.{Gives, IsBodyOf, greater, needed};
 ghost use Rattle.func_gen.specs.Operand.{is_operand};
 ghost use Rattle.func_gen.specs.Whole.{IsSmall};
 
 use crate::function_bindgen::{Code, FunctionBindgen};
 use crate::operand::ExprOperand;
-use crate::type_tables::TypeTables;
 use abi_bindgen::Asked;
 use rust_tree::{CallBlock, Expr, RuntimeItem, Stmt};
 use std::alloc::Global;
@@ -29,17 +28,14 @@ pub struct Body {
     pub runtime: List<RuntimeItem>,
 }
 
-impl FunctionBindgen {
-    /// The body that was made, and the tables by which it was. No block is open, and the code gives one operand at most.
-    pub fn finish(self) -> (Body, TypeTables)
+impl FunctionBindgen<'_> {
+    /// The body that was made. No block is open, and the code gives one operand at most. It takes no memory.
+    pub fn finish(self) -> Body
         requires closed { self.opened ≡ [] }
         requires few { IfSome self.returned (λ os. length os ≤ 1) }
-        ensures body { IsBodyOf self result.0 }
-        ensures tables { result.1 ≡ tables_of self }
+        ensures { IsBodyOf self.entry result }
     {
         let FunctionBindgen {
-            sizes,
-            sites,
             code,
             runtime,
             asked,
@@ -49,14 +45,13 @@ impl FunctionBindgen {
         let area = needed_area(asked.as_slice());
         let tail = tail_of(returned);
         let Code { call, stmts } = code;
-        let body = Body {
+        Body {
             call,
             stmts,
             tail,
             area,
             runtime,
-        };
-        (body, TypeTables { sizes, sites })
+        }
     }
 }
 

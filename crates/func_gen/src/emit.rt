@@ -37,7 +37,7 @@ use crate::operand::ExprOperand;
 use abi_bindgen::{Instruction, Operand};
 use wit_model::{List, OutOfMemory, Resolve};
 
-impl FunctionBindgen {
+impl FunctionBindgen<'_> {
     pub(crate) fn get_arg(
         &mut self,
         resolve: &Resolve,

@@ -33,7 +33,7 @@ fn take_last(alloc: Global, opened: &mut List<OpenBlock>) -> OpenBlock
     last
 }
 
-impl FunctionBindgen {
+impl FunctionBindgen<'_> {
     /// The innermost block is the last finished one, and the code that it suspended is resumed.
     fn resume(&mut self, operands: &mut List<ExprOperand>) -> Result<(), OutOfMemory>
         requires some { 0 < length self.old.opened }

@@ -11,13 +11,12 @@ ghost use Rattle.func_gen.specs.TypeSites.{CanBeDefined};
 
 use crate::operand::ExprOperand;
 use crate::scope::Scope;
-use crate::type_site::TypeSite;
+use crate::type_tables::TypeTables;
 use abi_bindgen::Asked;
 use local_names::Names;
 use rust_tree::{CallBlock, RuntimeItem, Stmt};
 use std::alloc::Global;
 use std::marker::Model;
-use wit_layout::SizeAlign;
 use wit_model::{List, OutOfMemory, Text};
 
 /// A parameter of a wrapper: what denotes its value, and its name.
@@ -64,9 +63,10 @@ pub struct FinishedBlock {
 
 /// Makes statements of instructions, for the wrapper of an import or of an export.
 #[derive(Drop)]
-pub struct FunctionBindgen {
+pub struct FunctionBindgen<'a> {
     pub(crate) alloc: Global,
-    pub(crate) sizes: SizeAlign,
+    /// The layouts of the types; and by the number of a type, how it is written, where it has a site.
+    pub(crate) tables: &'a TypeTables,
     /// Whether it makes code of an import; else of an export.
     pub(crate) import: bool,
     /// Where calls go: the module of the core imports, or the trait whose methods are called.
@@ -74,8 +74,6 @@ pub struct FunctionBindgen {
     /// The local that holds an import's return area.
     pub(crate) area: Text,
     pub(crate) params: List<ParamSite>,
-    /// By the number of a type, how it is written, where it has a site.
-    pub(crate) sites: List<Option<TypeSite>>,
     pub(crate) scope: Scope,
     pub(crate) code: Code,
     /// The open blocks, the innermost last.
@@ -90,7 +88,7 @@ pub struct FunctionBindgen {
     pub(crate) returned: Option<List<ExprOperand>>,
 }
 
-impl Model for FunctionBindgen {
+impl<'a> Model for FunctionBindgen<'a> {
     ghost use Rattle.std.specs.Coded.{codes};
     ghost use Rattle.rust_tree.specs.contracts.expr.Expr as expr_contract;
     ghost use Rattle.rust_tree.specs.contracts.stmt.Stmt as stmt_contract;
@@ -127,24 +125,23 @@ fn first_names(
     Ok(names)
 }
 
-impl FunctionBindgen {
+impl<'a> FunctionBindgen<'a> {
     /// One without code, for a wrapper of these parameters, of an import or of an export. Core imports that are called are of the module
     /// `home`, and methods of the trait of that name. The area is the local that holds an import's return area, and the cleanup the
-    /// one that holds the lists to be freed: no local that is numbered gets either name. The sites are by the numbers of their types.
+    /// one that holds the lists to be freed: no local that is numbered gets either name.
     pub fn new(
         alloc: Global,
-        sizes: SizeAlign,
+        tables: &'a TypeTables,
         import: bool,
         home: Text,
         area: Text,
         cleanup: Text,
         params: List<ParamSite>,
-        sites: List<Option<TypeSite>>,
-    ) -> Result<FunctionBindgen, OutOfMemory>
+    ) -> Result<FunctionBindgen<'a>, OutOfMemory>
         requires sites { AllByRecursion IsSite params }
-        requires defined { CanBeDefined sites }
+        requires defined { CanBeDefined tables.now.sites }
         requires distinct { is_distinct (area ∷ site_names params) ≡ true }
-        ensures made { IfOk result (IsMadeOf sizes import home area cleanup params sites) }
+        ensures made { IfOk result (IsMadeOf tables.now import home area cleanup params) }
         ensures begins { IfOk result (λ b. IsNew func_meaning b) }
         ensures imports { IfOk result (λ b. func_meaning.imports b ≡ import) }
         ensures exports { IfOk result (λ b. func_meaning.exports b ≡ not import) }
@@ -152,12 +149,11 @@ impl FunctionBindgen {
         let used = first_names(alloc, &area, &cleanup, params.as_slice())?;
         Ok(FunctionBindgen {
             alloc,
-            sizes,
+            tables,
             import,
             home,
             area,
             params,
-            sites,
             scope: Scope { used, next: 0 },
             code: Code {
                 call: None,

@@ -7,7 +7,7 @@ use abi_bindgen::{Asked, Bindgen, Instruction};
 use wit_layout::SizeAlign;
 use wit_model::{Alignment, ArchitectureSize, List, OutOfMemory, Resolve, WitType};
 
-impl Bindgen for FunctionBindgen {
+impl Bindgen for FunctionBindgen<'_> {
     ghost use Rattle.func_gen.specs.FuncSound.{func_sound};
     ghost use Rattle.func_gen.specs.Meaning.{func_meaning};
 
@@ -66,7 +66,7 @@ impl Bindgen for FunctionBindgen {
     }
 
     fn sizes(&self) -> &SizeAlign {
-        &self.sizes
+        &self.tables.sizes
     }
 
     fn is_list_canonical(&self, _resolve: &Resolve, _ty: &WitType) -> bool {

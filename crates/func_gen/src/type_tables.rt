@@ -4,8 +4,8 @@ use crate::type_site::TypeSite;
 use wit_layout::SizeAlign;
 use wit_model::List;
 
-/// What is known of the types of a table: their layouts; and by the number of a type, how it is written, where it has a site. Each body takes
-/// them and hands them back.
+/// What is known of the types of a table: their layouts; and by the number of a type, how it is written, where it has a site. They are made
+/// once for a file.
 #[derive(Drop)]
 pub struct TypeTables {
     pub sizes: SizeAlign,

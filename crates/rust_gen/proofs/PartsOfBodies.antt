@@ -1,5 +1,5 @@
 -- Bodies can be made of what stands for the parameters of an import, and of an export.
-use Rattle.std.proofs.Common.{◌≡◌, true, false, not, ◌&&◌, List, [], ◌∷◌, Option, None, Some, is_some, map, inl, inr, refl, sym, ap, ap₂, subst, ◌∙◌}
+use Rattle.std.proofs.Common.{◌≡◌, true, false, not, ◌&&◌, List, [], ◌∷◌, map, inl, inr, refl, sym, ap, ap₂, subst, ◌∙◌}
 use Rattle.std.specs.List.{AllByRecursion}
 use Rattle.wit_model.specs.Bytes.{Bytes}
 use Rattle.wit_model.specs.Distinct.{is_distinct}
@@ -14,14 +14,13 @@ use Rattle.gen_accept.specs.DeclaredNames.{param_idents}
 use Rattle.func_gen.specs.Forms.{operand_of}
 use Rattle.func_gen.specs.Scope.{is_used}
 use Rattle.func_gen.specs.Sites.{IsSite, site_names}
-use Rattle.func_gen.specs.declared.type_tables.TypeTables.{TypeTables}
 use Rattle.wrapper_closing.specs.Params.{arg_names, local_sites, ret_area}
-use Rattle.wrapper_closing.specs.Parts.{AreParts, tables_of}
+use Rattle.wrapper_closing.specs.Parts.{AreParts}
 use Rattle.wrapper_closing.specs.declared.parts.BodyParts.{BodyParts}
 use Rattle.wrapper_closing.proofs.LocalSites.{are_sites, named_so}
 use Rattle.rust_gen.specs.Body.{import_site, site_expr}
 use Rattle.rust_gen.specs.FixedName.{IsFixedName}
-use Rattle.rust_gen.specs.Known.{AreAtHand, sites_in}
+use Rattle.rust_gen.specs.Known.{AreAtHand}
 
 -- a fixed name is that of no parameter
 free-name : (params : List Bytes) (base name : Bytes) → IsFixedName params base name → is_used params name ≡ false
@@ -40,7 +39,7 @@ import-names : (params : List Param) → site_names (map import_site params) ≡
 import-names [] = refl
 import-names (p ∷ params) = ap (λ ns. rust_ident p.name ∷ ns) (import-names params)
 
-pub import-are : (types : List TypeDef) (f : Function) (parts : BodyParts) → AreAtHand types (Some (tables_of parts)) → IsFixedName (param_idents f) ret_area parts.area → parts.params ≡ map import_site f.params → is_distinct (param_idents f) ≡ true → AreParts types parts
+pub import-are : (types : List TypeDef) (f : Function) (parts : BodyParts) → AreAtHand types parts.tables.now → IsFixedName (param_idents f) ret_area parts.area → parts.params ≡ map import_site f.params → is_distinct (param_idents f) ≡ true → AreParts types parts
 import-are types f parts tables area params distinct = record {
   filled = tables.0;
   sites = subst (AllByRecursion IsSite) (sym params) (import-sites f.params);
@@ -50,27 +49,10 @@ import-are types f parts tables area params distinct = record {
   defined = tables.1;
 }
 
-pub export-are : (types : List TypeDef) (args : List CoreParam) (parts : BodyParts) → AreAtHand types (Some (tables_of parts)) → parts.area ≡ ret_area → parts.params ≡ local_sites (arg_names args) → is_distinct (ret_area ∷ arg_names args) ≡ true → AreParts types parts
+pub export-are : (types : List TypeDef) (args : List CoreParam) (parts : BodyParts) → AreAtHand types parts.tables.now → parts.area ≡ ret_area → parts.params ≡ local_sites (arg_names args) → is_distinct (ret_area ∷ arg_names args) ≡ true → AreParts types parts
 export-are types args parts tables area params distinct = record {
   filled = tables.0;
   sites = subst (AllByRecursion IsSite) (sym params) (are_sites (arg_names args));
   distinct = ap₂ (λ a ns. is_distinct (a ∷ ns)) area (ap site_names params ∙ named_so (arg_names args)) ∙ distinct;
   defined = tables.1;
 }
-
--- tables that are at hand are there
-pub there-at-hand : (types : List TypeDef) (o : Option TypeTables) → AreAtHand types o → is_some o ≡ true
-there-at-hand types None at_hand = absurd at_hand
-there-at-hand types (Some tables) at_hand = refl
-
--- the tables that were taken are those of the types
-pub taken-tables : (types : List TypeDef) (o : Option TypeTables) (tables : TypeTables) → AreAtHand types o → o ≡ Some tables → AreAtHand types (Some tables)
-taken-tables types o tables at_hand is = subst (AreAtHand types) is at_hand
-
--- and they are so when they are handed back
-pub given-tables : (types : List TypeDef) (parts : BodyParts) (tables : TypeTables) → AreParts types parts → tables ≡ tables_of parts → AreAtHand types (Some tables)
-given-tables types parts tables are is = subst (λ t. AreAtHand types (Some t)) (sym is) (are.filled, are.defined)
-
--- and know the same sites
-pub same-sites : (o : Option TypeTables) (parts : BodyParts) (tables : TypeTables) → parts.sites ≡ sites_in o → tables ≡ tables_of parts → sites_in (Some tables) ≡ sites_in o
-same-sites o parts tables written is = ap (λ (t : TypeTables). t.sites) is ∙ written

@@ -63,7 +63,7 @@ pub record AreImportParts (types : List TypeDef) (sites : List (Option TypeSite)
   pub area : IsFixedName (param_idents f) ret_area parts.area
   pub cleanup : IsFixedName (param_idents f) cleanup_list parts.cleanup
   pub params : parts.params ≡ map import_site f.params
-  pub written : parts.sites ≡ sites
+  pub written : parts.tables.now.sites ≡ sites
 
 -- the wrapper of an export has core parameters, which are denoted by their names, calls go to the trait of the world's own functions, and
 -- the list of cleanups has its fixed name, which no core parameter has
@@ -73,7 +73,7 @@ pub record AreExportParts (types : List TypeDef) (sites : List (Option TypeSite)
   pub area : parts.area ≡ ret_area
   pub cleanup : parts.cleanup ≡ cleanup_list
   pub params : parts.params ≡ local_sites (arg_names args)
-  pub written : parts.sites ≡ sites
+  pub written : parts.tables.now.sites ≡ sites
 
 -- 2. What each item is
 

@@ -1,5 +1,5 @@
 -- What is known of a world of which a tree is made.
-use Rattle.std.specs.Prelude.{◌≡◌, ℕ, true, List, [], Option, None, Some, map, slice_get}
+use Rattle.std.specs.Prelude.{◌≡◌, ℕ, true, List, Option, None, Some, map, slice_get}
 use Rattle.wit_model.specs.Distinct.{is_distinct}
 use Rattle.wit_model.specs.WellFormed.{IsWellFormed}
 use Rattle.wit_model.specs.declared.function.Function.{Function}
@@ -39,15 +39,9 @@ pub record HasCode (types : List TypeDef) (f : Function) : Type 0 where
 abbrev pub HaveCode : List TypeDef → List Function → Type 0
 HaveCode types fs = (nth : ℕ) (f : Function) → slice_get fs nth ≡ Some f → HasCode types f
 
--- the tables of types, where they are at hand: the layouts are those of the types, and items can define the types that have a site
-abbrev pub AreAtHand : List TypeDef → Option TypeTables → Type 0
-AreAtHand types None = ⊥
-AreAtHand types (Some tables) = IsFilledFor tables.sizes types × CanBeDefined tables.sites
-
--- how the types are written
-abbrev pub sites_in : Option TypeTables → List (Option TypeSite)
-sites_in None = []
-sites_in (Some tables) = tables.sites
+-- the tables of types: the layouts are those of the types, and items can define the types that have a site
+abbrev pub AreAtHand : List TypeDef → TypeTables → Type 0
+AreAtHand types tables = IsFilledFor tables.sizes types × CanBeDefined tables.sites
 
 -- by these sites, what each of these functions reaches can be written
 abbrev pub CanWriteFunctions : List TypeDef → List (Option TypeSite) → List Function → Type 0

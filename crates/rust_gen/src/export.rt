@@ -10,10 +10,9 @@ ghost use Rattle.wrapper_closing.specs.Bodies.{calls_method};
 ghost use Rattle.wrapper_closing.specs.Params.{arg_names, export_args, ret_area};
 ghost use Rattle.wrapper_closing.specs.Parts.{CanWriteFunction};
 ghost use Rattle.rust_gen.specs.Body.{AreExportParts, CallsMethodOf, IsCodeOf, IsExportCode, IsExportMade, IsExportOutside};
-ghost use Rattle.rust_gen.specs.Known.{AreAtHand, HasCode, sites_in};
+ghost use Rattle.rust_gen.specs.Known.{AreAtHand, HasCode};
 
 use crate::exported::{export_result, guest_name};
-use crate::tables::take_tables;
 use abi_bindgen::Asked;
 use func_gen::{Body, TypeTables};
 use rust_tree::{Block, CallBlock, CoreParam, ExportFn, RuntimeItem};
@@ -35,29 +34,27 @@ pub(crate) struct ExportCode {
 }
 
 /// Of what the body of an exported function's wrapper with these core parameters is made, and that of its post-return function.
-pub(crate) fn export_parts(
+pub(crate) fn export_parts<'a>(
     alloc: Global,
     resolve: &Resolve,
-    tables: &mut Option<TypeTables>,
+    tables: &'a TypeTables,
     params: &[CoreParam],
-) -> Result<BodyParts, OutOfMemory>
+) -> Result<BodyParts<'a>, OutOfMemory>
     requires well { IsWellFormed resolve.now }
     requires distinct { is_distinct (ret_area ∷ arg_names params.now) ≡ true }
-    requires tables { AreAtHand resolve.now.types tables.old }
-    ensures { IfOk result (AreExportParts resolve.now.types (sites_in tables.old) params.now) }
+    requires tables { AreAtHand resolve.now.types tables.now }
+    ensures { IfOk result (AreExportParts resolve.now.types tables.now.sites params.now) }
 {
     let home = guest_name(alloc)?;
     let area = ret_area(alloc)?;
     let cleanup = cleanup_list(alloc)?;
     let params = core_sites(alloc, params)?;
-    let taken = take_tables(tables);
     Ok(BodyParts {
-        sizes: taken.sizes,
+        tables,
         home,
         area,
         cleanup,
         params,
-        sites: taken.sites,
     })
 }
 
@@ -88,23 +85,20 @@ fn code_of(body: Body) -> ExportCode
 fn export_code(
     alloc: Global,
     resolve: &Resolve,
-    tables: &mut Option<TypeTables>,
+    tables: &TypeTables,
     f: &Function,
 ) -> Result<ExportCode, OutOfMemory>
     requires well { IsWellFormed resolve.now }
     requires within { function_in_range resolve.now f.now ≡ true }
     requires code { HasCode resolve.now.types f.now }
-    requires writes { CanWriteFunction resolve.now.types (sites_in tables.old) f.now }
-    requires tables { AreAtHand resolve.now.types tables.old }
-    ensures made { IfOk result (IsExportCode resolve.now.types (sites_in tables.old) f.entry) }
+    requires writes { CanWriteFunction resolve.now.types tables.now.sites f.now }
+    requires tables { AreAtHand resolve.now.types tables.now }
+    ensures made { IfOk result (IsExportCode resolve.now.types tables.now.sites f.entry) }
     ensures calls { IfOk result (λ code. CallsMethodOf f.now code.call) }
-    ensures kept { OnOk result (AreAtHand resolve.now.types tables.new) }
-    ensures same { OnOk result (sites_in tables.new ≡ sites_in tables.old) }
 {
     let params = core_params(alloc, resolve, f)?;
     let parts = export_parts(alloc, resolve, tables, params.as_slice())?;
-    let (body, taken) = export_body(alloc, resolve, f, parts)?;
-    *tables = Some(taken);
+    let body = export_body(alloc, resolve, f, parts)?;
     Ok(code_of(body))
 }
 
@@ -177,17 +171,15 @@ pub(crate) struct ExportMade {
 pub(crate) fn export_wrapper(
     alloc: Global,
     resolve: &Resolve,
-    tables: &mut Option<TypeTables>,
+    tables: &TypeTables,
     f: &Function,
 ) -> Result<ExportMade, OutOfMemory>
     requires well { IsWellFormed resolve.now }
     requires within { function_in_range resolve.now f.now ≡ true }
     requires code { HasCode resolve.now.types f.now }
-    requires writes { CanWriteFunction resolve.now.types (sites_in tables.old) f.now }
-    requires tables { AreAtHand resolve.now.types tables.old }
-    ensures made { IfOk result (IsExportMade resolve.now.types (sites_in tables.old) f.now) }
-    ensures kept { OnOk result (AreAtHand resolve.now.types tables.new) }
-    ensures same { OnOk result (sites_in tables.new ≡ sites_in tables.old) }
+    requires writes { CanWriteFunction resolve.now.types tables.now.sites f.now }
+    requires tables { AreAtHand resolve.now.types tables.now }
+    ensures { IfOk result (IsExportMade resolve.now.types tables.now.sites f.now) }
 {
     let args = core_params(alloc, resolve, f)?;
     let head = export_head(alloc, f, args)?;

@@ -11,13 +11,12 @@ ghost use Rattle.type_defs.specs.PartType.{printed_result};
 ghost use Rattle.wrapper_closing.specs.Parts.{CanWriteFunction};
 ghost use Rattle.rust_gen.specs.Body.{AreImportParts, IsImportCode, IsImportHead, IsImportMade};
 ghost use Rattle.rust_gen.specs.FixedName.{IsFixedName};
-ghost use Rattle.rust_gen.specs.Known.{AreAtHand, HasCode, sites_in};
+ghost use Rattle.rust_gen.specs.Known.{AreAtHand, HasCode};
 ghost use Rattle.rust_gen.specs.Wrapper.{printed_param, root_module};
 
 use crate::fixed_name::fixed_name;
 use crate::signature::{printed_params, printed_result};
 use crate::sites::import_sites;
-use crate::tables::take_tables;
 use func_gen::TypeTables;
 use gen_accept::param_idents;
 use rust_tree::{Block, FnItem, FnParam, Item, RuntimeItem, TypeExpr, to_rust_ident};
@@ -52,29 +51,27 @@ fn name_beside(alloc: Global, f: &Function, base: &str) -> Result<Text, OutOfMem
     fixed_name(alloc, params.as_slice(), base)
 }
 
-fn import_parts(
+fn import_parts<'a>(
     alloc: Global,
     resolve: &Resolve,
-    tables: &mut Option<TypeTables>,
+    tables: &'a TypeTables,
     f: &Function,
-) -> Result<BodyParts, OutOfMemory>
+) -> Result<BodyParts<'a>, OutOfMemory>
     requires well { IsWellFormed resolve.now }
     requires distinct { is_distinct (param_idents f.now) ≡ true }
-    requires tables { AreAtHand resolve.now.types tables.old }
-    ensures { IfOk result (AreImportParts resolve.now.types (sites_in tables.old) f.now) }
+    requires tables { AreAtHand resolve.now.types tables.now }
+    ensures { IfOk result (AreImportParts resolve.now.types tables.now.sites f.now) }
 {
     let home = root_module(alloc)?;
     let area = name_beside(alloc, f, "ret_area")?;
     let cleanup = name_beside(alloc, f, "cleanup_list")?;
     let params = import_sites(alloc, f.params.as_slice())?;
-    let taken = take_tables(tables);
     Ok(BodyParts {
-        sizes: taken.sizes,
+        tables,
         home,
         area,
         cleanup,
         params,
-        sites: taken.sites,
     })
 }
 
@@ -82,25 +79,21 @@ fn import_parts(
 fn import_code(
     alloc: Global,
     resolve: &Resolve,
-    tables: &mut Option<TypeTables>,
+    tables: &TypeTables,
     f: &Function,
 ) -> Result<(Block, List<RuntimeItem>), OutOfMemory>
     requires well { IsWellFormed resolve.now }
     requires within { function_in_range resolve.now f.now ≡ true }
     requires code { HasCode resolve.now.types f.now }
-    requires writes { CanWriteFunction resolve.now.types (sites_in tables.old) f.now }
+    requires writes { CanWriteFunction resolve.now.types tables.now.sites f.now }
     requires distinct { is_distinct (param_idents f.now) ≡ true }
-    requires tables { AreAtHand resolve.now.types tables.old }
-    ensures made { IfOk result (λ made. IsImportCode resolve.now.types (sites_in tables.old) f.entry made.0 made.1) }
-    ensures kept { OnOk result (AreAtHand resolve.now.types tables.new) }
-    ensures same { OnOk result (sites_in tables.new ≡ sites_in tables.old) }
+    requires tables { AreAtHand resolve.now.types tables.now }
+    ensures { IfOk result (λ made. IsImportCode resolve.now.types tables.now.sites f.entry made.0 made.1) }
 {
     let parts = import_parts(alloc, resolve, tables, f)?;
     let area = parts.area.copy(alloc)?;
-    let (body, taken) = import_body(alloc, resolve, f, parts)?;
-    *tables = Some(taken);
-    let made = import_block(alloc, area, body)?;
-    Ok(made)
+    let body = import_body(alloc, resolve, f, parts)?;
+    import_block(alloc, area, body)
 }
 
 fn import_head(
@@ -164,19 +157,17 @@ pub(crate) fn import_wrapper(
     alloc: Global,
     resolve: &Resolve,
     facts: &Types,
-    tables: &mut Option<TypeTables>,
+    tables: &TypeTables,
     f: &Function,
 ) -> Result<(FnItem, List<RuntimeItem>), OutOfMemory>
     requires well { IsWellFormed resolve.now }
     requires within { function_in_range resolve.now f.now ≡ true }
     requires code { HasCode resolve.now.types f.now }
-    requires writes { CanWriteFunction resolve.now.types (sites_in tables.old) f.now }
+    requires writes { CanWriteFunction resolve.now.types tables.now.sites f.now }
     requires distinct { is_distinct (param_idents f.now) ≡ true }
-    requires tables { AreAtHand resolve.now.types tables.old }
+    requires tables { AreAtHand resolve.now.types tables.now }
     requires facts { HasFacts resolve.now facts.now }
-    ensures made { IfOk result (λ made. IsImportMade resolve.now.types (sites_in tables.old) f.now made.0 made.1) }
-    ensures kept { OnOk result (AreAtHand resolve.now.types tables.new) }
-    ensures same { OnOk result (sites_in tables.new ≡ sites_in tables.old) }
+    ensures { IfOk result (λ made. IsImportMade resolve.now.types tables.now.sites f.now made.0 made.1) }
 {
     let head = import_head(alloc, resolve, facts, f)?;
     let (body, runtime) = import_code(alloc, resolve, tables, f)?;

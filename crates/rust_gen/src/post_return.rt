@@ -6,7 +6,7 @@ ghost use Rattle.wit_model.specs.WellFormed.{IsWellFormed};
 ghost use Rattle.wrapper_meaning.specs.Represents.{is_indirect};
 ghost use Rattle.wrapper_meaning.specs.Shape.{result_shape};
 ghost use Rattle.rust_gen.specs.Body.{IsReturnCode, IsReturnMade};
-ghost use Rattle.rust_gen.specs.Known.{AreAtHand, HasCode, sites_in};
+ghost use Rattle.rust_gen.specs.Known.{AreAtHand, HasCode};
 
 use crate::export::{ExportHead, export_head, export_parts};
 use func_gen::{Body, TypeTables};
@@ -19,22 +19,19 @@ use wrapper_closing::{post_return_body, post_return_params};
 fn return_code(
     alloc: Global,
     resolve: &Resolve,
-    tables: &mut Option<TypeTables>,
+    tables: &TypeTables,
     f: &Function,
 ) -> Result<(Block, List<RuntimeItem>), OutOfMemory>
     requires well { IsWellFormed resolve.now }
     requires within { function_in_range resolve.now f.now ≡ true }
     requires code { HasCode resolve.now.types f.now }
     requires indirect { is_indirect (result_shape resolve.now.types f.now) ≡ true }
-    requires tables { AreAtHand resolve.now.types tables.old }
-    ensures made { IfOk result (λ made. IsReturnCode resolve.now.types (sites_in tables.old) f.now made.0 made.1) }
-    ensures kept { OnOk result (AreAtHand resolve.now.types tables.new) }
-    ensures same { OnOk result (sites_in tables.new ≡ sites_in tables.old) }
+    requires tables { AreAtHand resolve.now.types tables.now }
+    ensures { IfOk result (λ made. IsReturnCode resolve.now.types tables.now.sites f.now made.0 made.1) }
 {
     let params = post_return_params(alloc, resolve, f)?;
     let parts = export_parts(alloc, resolve, tables, params.as_slice())?;
-    let (body, taken) = post_return_body(alloc, resolve, f, parts)?;
-    *tables = Some(taken);
+    let body = post_return_body(alloc, resolve, f, parts)?;
     let Body {
         stmts,
         tail,
@@ -65,17 +62,15 @@ fn return_fn(head: ExportHead, body: Block) -> PostReturnFn
 pub(crate) fn post_return(
     alloc: Global,
     resolve: &Resolve,
-    tables: &mut Option<TypeTables>,
+    tables: &TypeTables,
     f: &Function,
 ) -> Result<(PostReturnFn, List<RuntimeItem>), OutOfMemory>
     requires well { IsWellFormed resolve.now }
     requires within { function_in_range resolve.now f.now ≡ true }
     requires code { HasCode resolve.now.types f.now }
     requires indirect { is_indirect (result_shape resolve.now.types f.now) ≡ true }
-    requires tables { AreAtHand resolve.now.types tables.old }
-    ensures made { IfOk result (λ made. IsReturnMade resolve.now.types (sites_in tables.old) f.now made.0 made.1) }
-    ensures kept { OnOk result (AreAtHand resolve.now.types tables.new) }
-    ensures same { OnOk result (sites_in tables.new ≡ sites_in tables.old) }
+    requires tables { AreAtHand resolve.now.types tables.now }
+    ensures { IfOk result (λ made. IsReturnMade resolve.now.types tables.now.sites f.now made.0 made.1) }
 {
     let args = post_return_params(alloc, resolve, f)?;
     let head = export_head(alloc, f, args)?;

@@ -1,10 +1,10 @@
 //! What is known of a world's types, by which the bodies of a file are made.
 
-ghost use Rattle.std.specs.Prelude.{◌≡◌, true, Some, is_some, IfOk, slice_get};
+ghost use Rattle.std.specs.Prelude.{◌≡◌, true, Some, IfOk, slice_get};
 ghost use Rattle.wit_model.specs.declared.world.World.{World};
 ghost use Rattle.type_defs.specs.Levels.{are_shallow};
 ghost use Rattle.type_sites.specs.Sites.{type_sites};
-ghost use Rattle.rust_gen.specs.Known.{AreAtHand, CanWriteTypes, sites_in};
+ghost use Rattle.rust_gen.specs.Known.{AreAtHand, CanWriteTypes};
 
 use func_gen::TypeTables;
 use std::alloc::Global;
@@ -12,33 +12,21 @@ use type_sites::type_sites;
 use wit_layout::{LayoutFault, SizeAlign};
 use wit_model::{OutOfMemory, Resolve, WorldId};
 
-/// The tables of a world's types: their layouts, and how the types are written that a function of the world uses. Each body takes them and
-/// hands them back.
+/// The tables of a world's types: their layouts, and how the types are written that a function of the world uses.
 pub(crate) fn type_tables(
     alloc: Global,
     resolve: &Resolve,
     id: WorldId,
-) -> Result<Option<TypeTables>, OutOfMemory>
+) -> Result<TypeTables, OutOfMemory>
     requires { CanWriteTypes resolve.now id }
     ensures tables { IfOk result (AreAtHand resolve.now.types) }
     ensures sites { IfOk result
-        (λ tables. (world : World) → slice_get resolve.now.worlds id.0 ≡ Some world → are_shallow resolve.now.types ≡ true → sites_in tables ≡ type_sites resolve.now world) }
+        (λ tables. (world : World) → slice_get resolve.now.worlds id.0 ≡ Some world → are_shallow resolve.now.types ≡ true → tables.sites ≡ type_sites resolve.now world) }
 {
     let sites = type_sites(alloc, resolve, id)?;
     match SizeAlign::fill(alloc, resolve) {
-        Ok(sizes) => Ok(Some(TypeTables { sizes, sites })),
+        Ok(sizes) => Ok(TypeTables { sizes, sites }),
         Err(LayoutFault::OutOfMemory) => Err(OutOfMemory),
         Err(LayoutFault::TooLarge(_)) => unreachable!(),
-    }
-}
-
-/// The tables, for one body.
-pub(crate) fn take_tables(tables: &mut Option<TypeTables>) -> TypeTables
-    requires { is_some tables.old ≡ true }
-    ensures { tables.old ≡ Some result }
-{
-    match tables.take() {
-        Some(taken) => taken,
-        None => unreachable!(),
     }
 }

@@ -24,7 +24,7 @@ ghost use Rattle.wrapper_meaning.specs.Shape.{result_shape};
 ghost use Rattle.wrapper_closing.specs.Parts.{CanWriteFunction};
 ghost use Rattle.rust_gen.specs.Asking.{ExportAsks, ImportAsks, ReturnAsks, WrapperAsks, asked_with, bare};
 ghost use Rattle.rust_gen.specs.Bound.{Parts, areas_of, export_items, return_items};
-ghost use Rattle.rust_gen.specs.Known.{AreAtHand, CanWriteFunctions, CanWriteTypes, HasCode, HaveCode, HaveDistinctParams, sites_in};
+ghost use Rattle.rust_gen.specs.Known.{AreAtHand, CanWriteFunctions, CanWriteTypes, HasCode, HaveCode, HaveDistinctParams};
 ghost use Rattle.rust_gen.specs.Wrapper.{printed_param};
 
 use crate::export::{ExportMade, export_wrapper};
@@ -63,7 +63,7 @@ fn push_import(
     alloc: Global,
     resolve: &Resolve,
     facts: &Types,
-    tables: &mut Option<TypeTables>,
+    tables: &TypeTables,
     items: &mut List<Item>,
     asked: &mut List<RuntimeItem>,
     f: &Function,
@@ -71,14 +71,12 @@ fn push_import(
     requires well { IsWellFormed resolve.now }
     requires within { function_in_range resolve.now f.now ≡ true }
     requires code { HasCode resolve.now.types f.now }
-    requires writes { CanWriteFunction resolve.now.types (sites_in tables.old) f.now }
+    requires writes { CanWriteFunction resolve.now.types tables.now.sites f.now }
     requires distinct { is_distinct (param_idents f.now) ≡ true }
     requires facts { HasFacts resolve.now facts.now }
-    requires tables { AreAtHand resolve.now.types tables.old }
-    ensures made { OnOk result
-        ((i : FnItem × List RuntimeItem) × (items.new ≡ items.old ++ item.Import i.0 ∷ []) × (asked.new ≡ asked.old ++ i.1) × ImportAsks resolve.now.types (sites_in tables.old) f.now i) }
-    ensures kept { OnOk result (AreAtHand resolve.now.types tables.new) }
-    ensures same { OnOk result (sites_in tables.new ≡ sites_in tables.old) }
+    requires tables { AreAtHand resolve.now.types tables.now }
+    ensures { OnOk result
+        ((i : FnItem × List RuntimeItem) × (items.new ≡ items.old ++ item.Import i.0 ∷ []) × (asked.new ≡ asked.old ++ i.1) × ImportAsks resolve.now.types tables.now.sites f.now i) }
 {
     ask_by_signature(alloc, resolve, facts, asked, f)?;
     let (wrapper, runtime) = import_wrapper(alloc, resolve, facts, tables, f)?;
@@ -93,7 +91,7 @@ fn push_imports(
     alloc: Global,
     resolve: &Resolve,
     facts: &Types,
-    tables: &mut Option<TypeTables>,
+    tables: &TypeTables,
     items: &mut List<Item>,
     asked: &mut List<RuntimeItem>,
     functions: &[&Function],
@@ -101,14 +99,12 @@ fn push_imports(
     requires well { IsWellFormed resolve.now }
     requires within { AreInRange resolve.now (map (λ f. f.now) functions.now) }
     requires code { HaveCode resolve.now.types (map (λ f. f.now) functions.now) }
-    requires writes { CanWriteFunctions resolve.now.types (sites_in tables.old) (map (λ f. f.now) functions.now) }
+    requires writes { CanWriteFunctions resolve.now.types tables.now.sites (map (λ f. f.now) functions.now) }
     requires distinct { HaveDistinctParams (map (λ f. f.now) functions.now) }
     requires facts { HasFacts resolve.now facts.now }
-    requires tables { AreAtHand resolve.now.types tables.old }
-    ensures made { OnOk result
-        ((is : List (FnItem × List RuntimeItem)) × (items.new ≡ items.old ++ map item.Import (bare is)) × (asked.new ≡ asked.old ++ asked_with is) × AllZip (ImportAsks resolve.now.types (sites_in tables.old)) (map (λ f. f.now) functions.now) is) }
-    ensures kept { OnOk result (AreAtHand resolve.now.types tables.new) }
-    ensures same { OnOk result (sites_in tables.new ≡ sites_in tables.old) }
+    requires tables { AreAtHand resolve.now.types tables.now }
+    ensures { OnOk result
+        ((is : List (FnItem × List RuntimeItem)) × (items.new ≡ items.old ++ map item.Import (bare is)) × (asked.new ≡ asked.old ++ asked_with is) × AllZip (ImportAsks resolve.now.types tables.now.sites) (map (λ f. f.now) functions.now) is) }
 {
     for function in functions {
         push_import(alloc, resolve, facts, tables, items, asked, function)?;
@@ -121,7 +117,7 @@ fn push_imports(
 fn push_wrapper(
     alloc: Global,
     resolve: &Resolve,
-    tables: &mut Option<TypeTables>,
+    tables: &TypeTables,
     items: &mut List<Item>,
     asked: &mut List<RuntimeItem>,
     f: &Function,
@@ -129,12 +125,10 @@ fn push_wrapper(
     requires well { IsWellFormed resolve.now }
     requires within { function_in_range resolve.now f.now ≡ true }
     requires code { HasCode resolve.now.types f.now }
-    requires writes { CanWriteFunction resolve.now.types (sites_in tables.old) f.now }
-    requires tables { AreAtHand resolve.now.types tables.old }
-    ensures made { IfOk result
-        (λ area. (e : ExportFn × List RuntimeItem) × (items.new ≡ items.old ++ item.Export e.0 ∷ []) × (asked.new ≡ asked.old ++ e.1) × WrapperAsks resolve.now.types (sites_in tables.old) f.now e.0 area e.1) }
-    ensures kept { OnOk result (AreAtHand resolve.now.types tables.new) }
-    ensures same { OnOk result (sites_in tables.new ≡ sites_in tables.old) }
+    requires writes { CanWriteFunction resolve.now.types tables.now.sites f.now }
+    requires tables { AreAtHand resolve.now.types tables.now }
+    ensures { IfOk result
+        (λ area. (e : ExportFn × List RuntimeItem) × (items.new ≡ items.old ++ item.Export e.0 ∷ []) × (asked.new ≡ asked.old ++ e.1) × WrapperAsks resolve.now.types tables.now.sites f.now e.0 area e.1) }
 {
     let ExportMade {
         wrapper,
@@ -152,7 +146,7 @@ fn push_wrapper(
 fn push_returning(
     alloc: Global,
     resolve: &Resolve,
-    tables: &mut Option<TypeTables>,
+    tables: &TypeTables,
     items: &mut List<Item>,
     asked: &mut List<RuntimeItem>,
     f: &Function,
@@ -161,11 +155,9 @@ fn push_returning(
     requires within { function_in_range resolve.now f.now ≡ true }
     requires code { HasCode resolve.now.types f.now }
     requires indirect { is_indirect (result_shape resolve.now.types f.now) ≡ true }
-    requires tables { AreAtHand resolve.now.types tables.old }
-    ensures made { OnOk result
-        ((p : Option PostReturnFn × List RuntimeItem) × (items.new ≡ items.old ++ return_items p.0) × (asked.new ≡ asked.old ++ p.1) × ReturnAsks resolve.now.types (sites_in tables.old) true f.now p.0 p.1) }
-    ensures kept { OnOk result (AreAtHand resolve.now.types tables.new) }
-    ensures same { OnOk result (sites_in tables.new ≡ sites_in tables.old) }
+    requires tables { AreAtHand resolve.now.types tables.now }
+    ensures { OnOk result
+        ((p : Option PostReturnFn × List RuntimeItem) × (items.new ≡ items.old ++ return_items p.0) × (asked.new ≡ asked.old ++ p.1) × ReturnAsks resolve.now.types tables.now.sites true f.now p.0 p.1) }
 {
     let (function, runtime) = post_return(alloc, resolve, tables, f)?;
     let at = items.len();
@@ -179,7 +171,7 @@ fn push_returning(
 fn push_post_return(
     alloc: Global,
     resolve: &Resolve,
-    tables: &mut Option<TypeTables>,
+    tables: &TypeTables,
     items: &mut List<Item>,
     asked: &mut List<RuntimeItem>,
     f: &Function,
@@ -187,11 +179,9 @@ fn push_post_return(
     requires well { IsWellFormed resolve.now }
     requires within { function_in_range resolve.now f.now ≡ true }
     requires code { HasCode resolve.now.types f.now }
-    requires tables { AreAtHand resolve.now.types tables.old }
-    ensures made { OnOk result
-        ((p : Option PostReturnFn × List RuntimeItem) × (items.new ≡ items.old ++ return_items p.0) × (asked.new ≡ asked.old ++ p.1) × ReturnAsks resolve.now.types (sites_in tables.old) (needs_return resolve.now.types f.now) f.now p.0 p.1) }
-    ensures kept { OnOk result (AreAtHand resolve.now.types tables.new) }
-    ensures same { OnOk result (sites_in tables.new ≡ sites_in tables.old) }
+    requires tables { AreAtHand resolve.now.types tables.now }
+    ensures { OnOk result
+        ((p : Option PostReturnFn × List RuntimeItem) × (items.new ≡ items.old ++ return_items p.0) × (asked.new ≡ asked.old ++ p.1) × ReturnAsks resolve.now.types tables.now.sites (needs_return resolve.now.types f.now) f.now p.0 p.1) }
 {
     if needs_return(resolve, f) {
         push_returning(alloc, resolve, tables, items, asked, f)?;
@@ -215,7 +205,7 @@ fn push_needed(areas: &mut List<Asked>, area: Option<Asked>) -> Result<(), OutOf
 fn push_export(
     alloc: Global,
     resolve: &Resolve,
-    tables: &mut Option<TypeTables>,
+    tables: &TypeTables,
     items: &mut List<Item>,
     asked: &mut List<RuntimeItem>,
     areas: &mut List<Asked>,
@@ -224,12 +214,10 @@ fn push_export(
     requires well { IsWellFormed resolve.now }
     requires within { function_in_range resolve.now f.now ≡ true }
     requires code { HasCode resolve.now.types f.now }
-    requires writes { CanWriteFunction resolve.now.types (sites_in tables.old) f.now }
-    requires tables { AreAtHand resolve.now.types tables.old }
-    ensures made { OnOk result
-        ((e : Parts × List RuntimeItem) × (items.new ≡ items.old ++ export_items e.0) × (areas.new ≡ areas.old ++ option_to_list e.0.2) × (asked.new ≡ asked.old ++ e.1) × ExportAsks resolve.now.types (sites_in tables.old) f.now e) }
-    ensures kept { OnOk result (AreAtHand resolve.now.types tables.new) }
-    ensures same { OnOk result (sites_in tables.new ≡ sites_in tables.old) }
+    requires writes { CanWriteFunction resolve.now.types tables.now.sites f.now }
+    requires tables { AreAtHand resolve.now.types tables.now }
+    ensures { OnOk result
+        ((e : Parts × List RuntimeItem) × (items.new ≡ items.old ++ export_items e.0) × (areas.new ≡ areas.old ++ option_to_list e.0.2) × (asked.new ≡ asked.old ++ e.1) × ExportAsks resolve.now.types tables.now.sites f.now e) }
 {
     let area = push_wrapper(alloc, resolve, tables, items, asked, f)?;
     push_post_return(alloc, resolve, tables, items, asked, f)?;
@@ -241,7 +229,7 @@ fn push_export(
 fn push_exports(
     alloc: Global,
     resolve: &Resolve,
-    tables: &mut Option<TypeTables>,
+    tables: &TypeTables,
     items: &mut List<Item>,
     asked: &mut List<RuntimeItem>,
     functions: &[&Function],
@@ -249,12 +237,10 @@ fn push_exports(
     requires well { IsWellFormed resolve.now }
     requires within { AreInRange resolve.now (map (λ f. f.now) functions.now) }
     requires code { HaveCode resolve.now.types (map (λ f. f.now) functions.now) }
-    requires writes { CanWriteFunctions resolve.now.types (sites_in tables.old) (map (λ f. f.now) functions.now) }
-    requires tables { AreAtHand resolve.now.types tables.old }
-    ensures made { IfOk result
-        (λ areas. (es : List (Parts × List RuntimeItem)) × (items.new ≡ items.old ++ flat_map export_items (bare es)) × (areas ≡ flat_map option_to_list (areas_of (bare es))) × (asked.new ≡ asked.old ++ asked_with es) × AllZip (ExportAsks resolve.now.types (sites_in tables.old)) (map (λ f. f.now) functions.now) es) }
-    ensures kept { OnOk result (AreAtHand resolve.now.types tables.new) }
-    ensures same { OnOk result (sites_in tables.new ≡ sites_in tables.old) }
+    requires writes { CanWriteFunctions resolve.now.types tables.now.sites (map (λ f. f.now) functions.now) }
+    requires tables { AreAtHand resolve.now.types tables.now }
+    ensures { IfOk result
+        (λ areas. (es : List (Parts × List RuntimeItem)) × (items.new ≡ items.old ++ flat_map export_items (bare es)) × (areas ≡ flat_map option_to_list (areas_of (bare es))) × (asked.new ≡ asked.old ++ asked_with es) × AllZip (ExportAsks resolve.now.types tables.now.sites) (map (λ f. f.now) functions.now) es) }
 {
     let mut areas = List::new(alloc);
     for function in functions {
@@ -290,16 +276,16 @@ pub(crate) fn push_wrappers(
 {
     let imports = functions_in(alloc, world.imports.as_slice())?;
     let facts = Types::analyze(alloc, resolve, id)?;
-    let mut tables = type_tables(alloc, resolve, id)?;
+    let tables = type_tables(alloc, resolve, id)?;
     push_imports(
         alloc,
         resolve,
         &facts,
-        &mut tables,
+        &tables,
         items,
         asked,
         imports.as_slice(),
     )?;
-    let areas = push_exports(alloc, resolve, &mut tables, items, asked, exports)?;
+    let areas = push_exports(alloc, resolve, &tables, items, asked, exports)?;
     Ok(areas)
 }

@@ -18,7 +18,6 @@ pub mod FaithfulExport
 pub mod FaithfulImport
 pub mod FreedBlocks
 pub mod Givings
-pub mod HandedBack
 pub mod ImportBodyCloses
 pub mod ImportCalls
 pub mod ImportDeclares

@@ -9,5 +9,5 @@ use Rattle.func_gen.specs.declared.type_site.TypeSite.{TypeSite}
 use Rattle.wrapper_closing.specs.Parts.{CanWriteFunction, IsMadeFrom}
 use Rattle.wrapper_closing.specs.declared.parts.BodyParts.{BodyParts}
 
-pub made_writes : (types : List TypeDef) (f : Function) (import : Bool) (parts : BodyParts) (b : FunctionBindgen) → IsMadeFrom import parts b → CanWriteFunction types parts.sites f → WritesFunction func_meaning types f b
+pub made_writes : (types : List TypeDef) (f : Function) (import : Bool) (parts : BodyParts) (b : FunctionBindgen) → IsMadeFrom import parts b → CanWriteFunction types parts.tables.now.sites f → WritesFunction func_meaning types f b
 made_writes types f import parts b made h = subst (λ (sites : List (Option TypeSite)). CanWriteFunction types sites f) (sym made.of_sites) h

@@ -41,7 +41,7 @@ pub record ClosesExportBody (types : List TypeDef) (func : Bor Function) (parts 
   pub signature : HasCoreSignature (passed types func.now) item
   pub block : item.rest ≡ code_of body.stmts body.tail
   pub runtime : Found tree.items body.runtime
-  pub sites : AreDefined tree.items parts.sites
+  pub sites : AreDefined tree.items parts.tables.now.sites
   pub called : GivesAsCalled tree.items parts.home (Some item.call)
   pub area : SharesArea results (result_shape types func.now) tree
   pub passes : PassesAsItIs func_meaning (export_file tree number parts.home) makes.old func.now (param_shapes types func.now)

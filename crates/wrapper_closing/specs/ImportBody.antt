@@ -33,7 +33,7 @@ pub record ClosesImportBody (types : List TypeDef) (func : Bor Function) (parts 
   pub names : map (λ p. p.name) item.params ≡ site_names parts.params
   pub block : item.body ≡ block_of parts.area body
   pub runtime : Found tree.items body.runtime
-  pub sites : AreDefined tree.items parts.sites
+  pub sites : AreDefined tree.items parts.tables.now.sites
   pub answers : AnswersAs tree.items item.result (result_shape types func.now)
   pub printed : ArePrintedLent tree.items (param_shapes types func.now) item.params
   pub params : are_direct (param_shapes types func.now) ≡ true

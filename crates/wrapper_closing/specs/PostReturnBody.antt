@@ -34,7 +34,7 @@ pub record ClosesPostReturnBody (types : List TypeDef) (f : Function) (parts : B
   pub pinned : map (λ p. p.ty) function.params ≡ core_results GuestExport (result_words (result_shape types f))
   pub block : function.body ≡ code_of body.stmts body.tail
   pub runtime : Found tree.items body.runtime
-  pub sites : AreDefined tree.items parts.sites
+  pub sites : AreDefined tree.items parts.tables.now.sites
   -- the static area of the file, if it has one, is an area
   pub sized : IfSome (static_request (area_in tree.items)) IsArea
   pub result : is_direct_result (result_shape types f) ≡ true

@@ -6,32 +6,31 @@ ghost use Rattle.abi_driver.specs.Low.{IsSmallRecord};
 ghost use Rattle.wit_model.specs.IndexRange.{function_in_range};
 ghost use Rattle.wit_model.specs.WellFormed.{IsWellFormed};
 ghost use Rattle.wrapper_closing.specs.Bodies.{MakesImport};
-ghost use Rattle.wrapper_closing.specs.Parts.{AreParts, CanWriteFunction, tables_of};
+ghost use Rattle.wrapper_closing.specs.Parts.{AreParts, CanWriteFunction};
 
 use crate::parts::{BodyParts, begin};
 use abi_driver::{LiftLower, call};
-use func_gen::{Body, TypeTables};
+use func_gen::Body;
 use std::alloc::Global;
 use wit_layout::AbiVariant;
 use wit_model::{Function, OutOfMemory, Resolve};
 
-/// The body of the wrapper of an imported function, which is the driver's code for it; and the tables of its parts. The answer is
-/// `OutOfMemory` where there is no memory for it.
+/// The body of the wrapper of an imported function, which is the driver's code for it. The answer is `OutOfMemory` where there is no memory
+/// for it.
 pub fn import_body(
     alloc: Global,
     resolve: &Resolve,
     func: &Function,
-    parts: BodyParts,
-) -> Result<(Body, TypeTables), OutOfMemory>
+    parts: BodyParts<'_>,
+) -> Result<Body, OutOfMemory>
     requires well { IsWellFormed resolve.now }
     requires within { function_in_range resolve.now func.now ≡ true }
     requires serves { ServesFunction resolve.now.types func.now }
     requires small { IsSmallRecord resolve.now.types (map (λ p. p.ty) func.now.params) }
     requires parts { AreParts resolve.now.types parts }
-    requires writes { CanWriteFunction resolve.now.types parts.sites func.now }
+    requires writes { CanWriteFunction resolve.now.types parts.tables.now.sites func.now }
     requires many { length parts.params ≡ length func.now.params }
-    ensures makes { IfOk result (λ made. MakesImport resolve.now.types func.entry parts made.0) }
-    ensures tables { IfOk result (λ made. made.1 ≡ tables_of parts) }
+    ensures { IfOk result (MakesImport resolve.now.types func.entry parts.entry) }
 {
     let mut bindgen = begin(alloc, true, parts)?;
     call(
@@ -42,6 +41,5 @@ pub fn import_body(
         func,
         &mut bindgen,
     )?;
-    let (body, tables) = bindgen.finish();
-    Ok((body, tables))
+    Ok(bindgen.finish())
 }

@@ -9,16 +9,15 @@ ghost use Rattle.func_gen.specs.TypeSites.{CanBeDefined};
 ghost use Rattle.func_gen.specs.Sites.{IsSite, site_names};
 ghost use Rattle.wrapper_closing.specs.Parts.{IsMadeFrom};
 
-use func_gen::{FunctionBindgen, ParamSite, TypeSite};
+use func_gen::{FunctionBindgen, ParamSite, TypeTables};
 use std::alloc::Global;
-use wit_layout::SizeAlign;
 use wit_model::{List, OutOfMemory, Text};
 
 /// Of what the body of a wrapper is made, beside its function.
 #[derive(Drop)]
-pub struct BodyParts {
-    /// The layouts of the types of the table.
-    pub sizes: SizeAlign,
+pub struct BodyParts<'a> {
+    /// The layouts of the types of the table, and how they are written.
+    pub tables: &'a TypeTables,
     /// Where calls go: the module of the core imports, or the trait whose methods are called.
     pub home: Text,
     /// The local that holds an import's return area.
@@ -27,29 +26,26 @@ pub struct BodyParts {
     pub cleanup: Text,
     /// The wrapper's parameters.
     pub params: List<ParamSite>,
-    /// By the number of a type, how it is written, where it has a site.
-    pub sites: List<Option<TypeSite>>,
 }
 
 /// A bindgen without code, of an import or of an export.
-pub(crate) fn begin(
+pub(crate) fn begin<'a>(
     alloc: Global,
     import: bool,
-    parts: BodyParts,
-) -> Result<FunctionBindgen, OutOfMemory>
+    parts: BodyParts<'a>,
+) -> Result<FunctionBindgen<'a>, OutOfMemory>
     requires sites { AllByRecursion IsSite parts.params }
-    requires defined { CanBeDefined parts.sites }
+    requires defined { CanBeDefined parts.tables.now.sites }
     requires distinct { is_distinct (parts.area ∷ site_names parts.params) ≡ true }
-    ensures made { IfOk result (IsMadeFrom import parts) }
+    ensures made { IfOk result (IsMadeFrom import parts.entry) }
     ensures begins { IfOk result (λ b. IsNew func_meaning b) }
 {
     let BodyParts {
-        sizes,
+        tables,
         home,
         area,
         cleanup,
         params,
-        sites,
     } = parts;
-    FunctionBindgen::new(alloc, sizes, import, home, area, cleanup, params, sites)
+    FunctionBindgen::new(alloc, tables, import, home, area, cleanup, params)
 }

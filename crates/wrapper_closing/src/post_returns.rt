@@ -6,32 +6,30 @@ ghost use Rattle.wrapper_meaning.specs.Shape.{result_shape};
 ghost use Rattle.wit_model.specs.IndexRange.{function_in_range};
 ghost use Rattle.wit_model.specs.WellFormed.{IsWellFormed};
 ghost use Rattle.wrapper_closing.specs.Bodies.{MakesPostReturn};
-ghost use Rattle.wrapper_closing.specs.Parts.{AreParts, tables_of};
+ghost use Rattle.wrapper_closing.specs.Parts.{AreParts};
 
 use crate::parts::{BodyParts, begin};
 use abi_driver::post_return;
-use func_gen::{Body, TypeTables};
+use func_gen::Body;
 use std::alloc::Global;
 use wit_model::{Function, OutOfMemory, Resolve};
 
-/// The body of the post-return function of an exported function, which is the driver's code by which the blocks of its result are freed; and the
-/// tables of its parts. The answer is `OutOfMemory` where there is no memory for it.
+/// The body of the post-return function of an exported function, which is the driver's code by which the blocks of its result are freed. The
+/// answer is `OutOfMemory` where there is no memory for it.
 pub fn post_return_body(
     alloc: Global,
     resolve: &Resolve,
     func: &Function,
-    parts: BodyParts,
-) -> Result<(Body, TypeTables), OutOfMemory>
+    parts: BodyParts<'_>,
+) -> Result<Body, OutOfMemory>
     requires well { IsWellFormed resolve.now }
     requires within { function_in_range resolve.now func.now ≡ true }
     requires serves { ServesResult (result_shape resolve.now.types func.now) }
     requires parts { AreParts resolve.now.types parts }
     requires some { 0 < length parts.params }
-    ensures makes { IfOk result (λ made. MakesPostReturn resolve.now.types func.now parts made.0) }
-    ensures tables { IfOk result (λ made. made.1 ≡ tables_of parts) }
+    ensures { IfOk result (MakesPostReturn resolve.now.types func.now parts.entry) }
 {
     let mut bindgen = begin(alloc, false, parts)?;
     post_return(alloc, resolve, func, &mut bindgen)?;
-    let (body, tables) = bindgen.finish();
-    Ok((body, tables))
+    Ok(bindgen.finish())
 }

@@ -5,6 +5,7 @@ ghost use Rattle.std.specs.List.{AllByRecursion};
 ghost use Rattle.wit_model.specs.Distinct.{is_distinct};
 ghost use Rattle.wit_model.specs.IndexRange.{function_in_range};
 ghost use Rattle.wit_model.specs.WellFormed.{IsWellFormed};
+ghost use Rattle.wit_layout.specs.Filled.{IsFilledFor};
 ghost use Rattle.wit_model.specs.declared.types.WitType.TheVariants.{Id};
 ghost use Rattle.wrapper_meaning.specs.Shape.{shape_at};
 ghost use Rattle.abi_bindgen.specs.Laws.{IsNew};
@@ -20,7 +21,7 @@ ghost use Rattle.wrapper_closing.specs.Parts.{AreParts, CanWriteFunction, IsMade
 use crate::bodies::sites::{flags_sites, variant_sites};
 use crate::bodies::worlds::function;
 use abi_driver::{AbiVariant, LiftLower, call};
-use func_gen::{Body, FunctionBindgen};
+use func_gen::{Body, FunctionBindgen, TypeTables};
 use std::alloc::Global;
 use std::test::Fail;
 use wit_layout::SizeAlign;
@@ -38,12 +39,29 @@ fn names(alloc: Global) -> Result<List<Text>, OutOfMemory>
     Ok(names)
 }
 
-/// Of what the body of an import over a variant is made.
-pub(crate) fn import_parts(alloc: Global, resolve: &Resolve) -> Result<BodyParts, Fail>
+/// What is known of the types of a world of a variant.
+pub(crate) fn variant_tables(alloc: Global, resolve: &Resolve) -> Result<TypeTables, Fail>
     requires { IsWellFormed resolve.now }
+    ensures filled { IfOk result (λ tables. IsFilledFor tables.sizes resolve.now.types) }
+    ensures defined { IfOk result (λ tables. CanBeDefined tables.sites) }
+    ensures written { IfOk result (λ tables. (id : ℕ) → CanWrite resolve.now.types tables.sites id) }
+{
+    let sites = variant_sites(alloc, resolve.types.as_slice())?;
+    let sizes = SizeAlign::fill(alloc, resolve)?;
+    Ok(TypeTables { sizes, sites })
+}
+
+/// Of what the body of an import over a variant is made.
+pub(crate) fn import_parts<'a>(
+    alloc: Global,
+    resolve: &Resolve,
+    tables: &'a TypeTables,
+) -> Result<BodyParts<'a>, Fail>
+    requires filled { IsFilledFor tables.now.sizes resolve.now.types }
+    requires defined { CanBeDefined tables.now.sites }
     ensures parts { IfOk result (AreParts resolve.now.types) }
     ensures many { IfOk result (λ parts. length parts.params ≡ 1) }
-    ensures written { IfOk result (λ parts. (id : ℕ) → CanWrite resolve.now.types parts.sites id) }
+    ensures over { IfOk result (λ parts. parts.tables.now ≡ tables.now) }
 {
     let names = names(alloc)?;
     let area = ret_area(alloc)?;
@@ -53,39 +71,35 @@ pub(crate) fn import_parts(alloc: Global, resolve: &Resolve) -> Result<BodyParts
     let home = Text::from_str(alloc, "$root")?;
     let cleanup = cleanup_list(alloc)?;
     let params = param_sites(alloc, names.as_slice())?;
-    let sites = variant_sites(alloc, resolve.types.as_slice())?;
-    let sizes = SizeAlign::fill(alloc, resolve)?;
     Ok(BodyParts {
-        sizes,
+        tables,
         home,
         area,
         cleanup,
         params,
-        sites,
     })
 }
 
 /// A fresh bindgen of these parts.
-pub(crate) fn fresh(
+pub(crate) fn fresh<'a>(
     alloc: Global,
     import: bool,
-    parts: BodyParts,
-) -> Result<FunctionBindgen, OutOfMemory>
+    parts: BodyParts<'a>,
+) -> Result<FunctionBindgen<'a>, OutOfMemory>
     requires sites { AllByRecursion IsSite parts.params }
-    requires defined { CanBeDefined parts.sites }
+    requires defined { CanBeDefined parts.tables.now.sites }
     requires distinct { is_distinct (parts.area ∷ site_names parts.params) ≡ true }
-    ensures made { IfOk result (IsMadeFrom import parts) }
+    ensures made { IfOk result (IsMadeFrom import parts.entry) }
     ensures begins { IfOk result (λ b. IsNew func_meaning b) }
 {
     let BodyParts {
-        sizes,
+        tables,
         home,
         area,
         cleanup,
         params,
-        sites,
     } = parts;
-    FunctionBindgen::new(alloc, sizes, import, home, area, cleanup, params, sites)
+    FunctionBindgen::new(alloc, tables, import, home, area, cleanup, params)
 }
 
 /// The driver's code for the import of a world of a variant.
@@ -96,7 +110,8 @@ pub(crate) fn import_code(alloc: Global, resolve: &Resolve) -> Result<Body, Fail
     requires small { IsSmallRecord resolve.now.types (Id (record { 0 = 0 }) ∷ []) }
 {
     let func = function(alloc)?;
-    let parts = import_parts(alloc, resolve)?;
+    let tables = variant_tables(alloc, resolve)?;
+    let parts = import_parts(alloc, resolve, &tables)?;
     let body = called_import(alloc, resolve, &func, parts)?;
     Ok(body)
 }
@@ -106,14 +121,14 @@ fn called_import(
     alloc: Global,
     resolve: &Resolve,
     func: &Function,
-    parts: BodyParts,
+    parts: BodyParts<'_>,
 ) -> Result<Body, OutOfMemory>
     requires well { IsWellFormed resolve.now }
     requires within { function_in_range resolve.now func.now ≡ true }
     requires serves { ServesFunction resolve.now.types func.now }
     requires small { IsSmallRecord resolve.now.types (map (λ p. p.ty) func.now.params) }
     requires parts { AreParts resolve.now.types parts }
-    requires writes { CanWriteFunction resolve.now.types parts.sites func.now }
+    requires writes { CanWriteFunction resolve.now.types parts.tables.now.sites func.now }
     requires many { length parts.params ≡ length func.now.params }
 {
     let mut bindgen = fresh(alloc, true, parts)?;
@@ -125,32 +140,47 @@ fn called_import(
         func,
         &mut bindgen,
     )?;
-    let (body, _) = bindgen.finish();
-    Ok(body)
+    Ok(bindgen.finish())
+}
+
+/// What is known of the types of a world of flags.
+fn flags_tables(alloc: Global, resolve: &Resolve) -> Result<TypeTables, Fail>
+    requires { IsWellFormed resolve.now }
+    ensures filled { IfOk result (λ tables. IsFilledFor tables.sizes resolve.now.types) }
+    ensures defined { IfOk result (λ tables. CanBeDefined tables.sites) }
+    ensures written { IfOk result (λ tables. (id : ℕ) → CanWrite resolve.now.types tables.sites id) }
+{
+    let sites = flags_sites(alloc, resolve.types.as_slice())?;
+    let sizes = SizeAlign::fill(alloc, resolve)?;
+    Ok(TypeTables { sizes, sites })
 }
 
 /// Of what the body of an export over flags is made.
-fn export_parts(alloc: Global, resolve: &Resolve, func: &Function) -> Result<BodyParts, Fail>
+fn export_parts<'a>(
+    alloc: Global,
+    resolve: &Resolve,
+    tables: &'a TypeTables,
+    func: &Function,
+) -> Result<BodyParts<'a>, Fail>
     requires well { IsWellFormed resolve.now }
     requires within { function_in_range resolve.now func.now ≡ true }
+    requires filled { IsFilledFor tables.now.sizes resolve.now.types }
+    requires defined { CanBeDefined tables.now.sites }
     ensures parts { IfOk result (AreParts resolve.now.types) }
     ensures many { IfOk result (λ parts. length parts.params ≡ length (export_params resolve.now.types func.now)) }
-    ensures written { IfOk result (λ parts. (id : ℕ) → CanWrite resolve.now.types parts.sites id) }
+    ensures over { IfOk result (λ parts. parts.tables.now ≡ tables.now) }
 {
     let words = core_params(alloc, resolve, func)?;
     let home = Text::from_str(alloc, "Guest")?;
     let area = ret_area(alloc)?;
     let cleanup = cleanup_list(alloc)?;
     let params = core_sites(alloc, words.as_slice())?;
-    let sites = flags_sites(alloc, resolve.types.as_slice())?;
-    let sizes = SizeAlign::fill(alloc, resolve)?;
     Ok(BodyParts {
-        sizes,
+        tables,
         home,
         area,
         cleanup,
         params,
-        sites,
     })
 }
 
@@ -162,7 +192,8 @@ pub(crate) fn export_code(alloc: Global, resolve: &Resolve) -> Result<Body, Fail
     requires small { IsSmallRecord resolve.now.types (Id (record { 0 = 0 }) ∷ []) }
 {
     let func = function(alloc)?;
-    let parts = export_parts(alloc, resolve, &func)?;
+    let tables = flags_tables(alloc, resolve)?;
+    let parts = export_parts(alloc, resolve, &tables, &func)?;
     let body = called_export(alloc, resolve, &func, parts)?;
     Ok(body)
 }
@@ -172,14 +203,14 @@ fn called_export(
     alloc: Global,
     resolve: &Resolve,
     func: &Function,
-    parts: BodyParts,
+    parts: BodyParts<'_>,
 ) -> Result<Body, OutOfMemory>
     requires well { IsWellFormed resolve.now }
     requires within { function_in_range resolve.now func.now ≡ true }
     requires serves { ServesFunction resolve.now.types func.now }
     requires small { IsSmallRecord resolve.now.types (map (λ p. p.ty) func.now.params) }
     requires parts { AreParts resolve.now.types parts }
-    requires writes { CanWriteFunction resolve.now.types parts.sites func.now }
+    requires writes { CanWriteFunction resolve.now.types parts.tables.now.sites func.now }
     requires many { length parts.params ≡ length (export_params resolve.now.types func.now) }
 {
     let mut bindgen = fresh(alloc, false, parts)?;
@@ -191,6 +222,5 @@ fn called_export(
         func,
         &mut bindgen,
     )?;
-    let (body, _) = bindgen.finish();
-    Ok(body)
+    Ok(bindgen.finish())
 }

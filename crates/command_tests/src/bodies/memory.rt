@@ -4,7 +4,7 @@ ghost use Rattle.std.specs.Prelude.{◌≡◌, [], length, Some, IfOk, OnOk};
 ghost use Rattle.wit_model.specs.WellFormed.{IsWellFormed};
 ghost use Rattle.func_gen.specs.Opened.{open_blocks};
 
-use crate::bodies::code::{fresh, import_parts};
+use crate::bodies::code::{fresh, import_parts, variant_tables};
 use crate::bodies::trees::{import_tree, prints};
 use crate::bodies::worlds::world_of_a_variant;
 use abi_bindgen::{Instruction, send};
@@ -38,7 +38,7 @@ fn words_of_a_text(alloc: Global) -> Result<List<ExprOperand>, OutOfMemory>
 fn give_nothing(
     alloc: Global,
     resolve: &Resolve,
-    bindgen: &mut FunctionBindgen,
+    bindgen: &mut FunctionBindgen<'_>,
 ) -> Result<(), OutOfMemory>
     ensures closed { OnOk result (open_blocks bindgen.new.opened ≡ open_blocks bindgen.old.opened) }
     ensures nothing { OnOk result (bindgen.new.returned ≡ Some []) }
@@ -53,15 +53,15 @@ fn give_nothing(
 fn stored(alloc: Global, resolve: &Resolve) -> Result<Bindings, Fail>
     requires { IsWellFormed resolve.now }
 {
-    let parts = import_parts(alloc, resolve)?;
+    let tables = variant_tables(alloc, resolve)?;
+    let parts = import_parts(alloc, resolve, &tables)?;
     let mut bindgen = fresh(alloc, true, parts)?;
     let address = local(alloc, "a")?;
     let value = local(alloc, "x")?;
     let ty = WitType::U32;
     lower_to_memory(alloc, resolve, &mut bindgen, address, value, &ty, false)?;
     give_nothing(alloc, resolve, &mut bindgen)?;
-    let (body, _) = bindgen.finish();
-    import_tree(alloc, body)
+    import_tree(alloc, bindgen.finish())
 }
 
 /// The tree of the code that frees a text.
@@ -69,14 +69,14 @@ fn stored(alloc: Global, resolve: &Resolve) -> Result<Bindings, Fail>
 fn freed(alloc: Global, resolve: &Resolve) -> Result<Bindings, Fail>
     requires { IsWellFormed resolve.now }
 {
-    let parts = import_parts(alloc, resolve)?;
+    let tables = variant_tables(alloc, resolve)?;
+    let parts = import_parts(alloc, resolve, &tables)?;
     let mut bindgen = fresh(alloc, true, parts)?;
     let words = words_of_a_text(alloc)?;
     let types = &[WitType::String];
     deallocate_lists_in_types(alloc, resolve, types, &words, false, &mut bindgen)?;
     give_nothing(alloc, resolve, &mut bindgen)?;
-    let (body, _) = bindgen.finish();
-    import_tree(alloc, body)
+    import_tree(alloc, bindgen.finish())
 }
 
 #[test]

@@ -19,7 +19,7 @@ use rust_tree::{Expr, ImportDecl, Path, Stmt};
 use std::alloc::Global;
 use wit_model::{Function, List, OutOfMemory, Resolve, Text, WasmType};
 
-impl FunctionBindgen {
+impl FunctionBindgen<'_> {
     pub(crate) fn call_core(
         &mut self,
         resolve: &Resolve,

@@ -300,7 +300,7 @@ fn push_casts(
     Ok(())
 }
 
-impl FunctionBindgen {
+impl FunctionBindgen<'_> {
     /// The number of the slots of casts, into which pointers are put.
     #[tactic(auto, unfolding(crate::specs::CastForms::slot_prefix))]
     fn add_slots(&mut self, casts: &[Bitcast], es: &[Expr]) -> Result<u32, OutOfMemory>

@@ -36,7 +36,7 @@ fn push_zeros(types: &[WasmType], results: &mut List<ExprOperand>) -> Result<(),
     Ok(())
 }
 
-impl FunctionBindgen {
+impl FunctionBindgen<'_> {
     pub(crate) fn make_number(
         &mut self,
         resolve: &Resolve,

@@ -10,7 +10,7 @@ use crate::operand::ExprOperand;
 use abi_bindgen::Instruction;
 use wit_model::{List, OutOfMemory, Resolve};
 
-impl FunctionBindgen {
+impl FunctionBindgen<'_> {
     /// The code of a scalar, a text, a record, a tuple, an enum or flags, and of a block of memory that is freed; of any other instruction
     /// that of `emit_cases`.
     pub(crate) fn emit_value(

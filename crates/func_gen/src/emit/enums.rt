@@ -63,14 +63,14 @@ fn enum_site(sites: &[Option<TypeSite>], id: TypeId) -> &EnumSite
     }
 }
 
-impl FunctionBindgen {
+impl FunctionBindgen<'_> {
     /// The call that gives the case of a word's number.
     fn lifted_case(&self, resolve: &Resolve, id: TypeId, e: &Expr) -> Result<Expr, OutOfMemory>
         requires operand { is_operand e.now ≡ true }
         requires site { WritesEnum resolve.now.types self.now.sites id.0 }
         ensures { IfOk result (λ c. LiftsEnumAt resolve.now.types self.now.sites id.0 e.now c) }
     {
-        let site = enum_site(self.sites.as_slice(), id);
+        let site = enum_site(self.tables.sites.as_slice(), id);
         let to = case_cast(site.repr);
         let path = lift_path(self.alloc, name_at_root(&site.path))?;
         let number = cast_to(self.alloc, copy_expr(e, self.alloc)?, to)?;

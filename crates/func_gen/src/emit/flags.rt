@@ -59,13 +59,13 @@ fn flags_site(sites: &[Option<TypeSite>], id: TypeId) -> &FlagsSite
     }
 }
 
-impl FunctionBindgen {
+impl FunctionBindgen<'_> {
     /// How many words the flags at a place of the table are.
     fn word_count(&self, resolve: &Resolve, id: TypeId) -> u32
         requires { WritesFlags resolve.now.types self.now.sites id.0 }
         ensures { HasWordCount resolve.now.types self.now.sites id.0 result }
     {
-        let site = flags_site(self.sites.as_slice(), id);
+        let site = flags_site(self.tables.sites.as_slice(), id);
         site.members.div_ceil(32)
     }
 
@@ -80,7 +80,7 @@ impl FunctionBindgen {
         requires reads { Reads resolve.now.types (instruction.FlagsLift id) (length operands.now) }
         ensures { IfOk result (λ e. MakesFlags resolve.now.types self.now.sites id.0 operands.now e) }
     {
-        let site = flags_site(self.sites.as_slice(), id);
+        let site = flags_site(self.tables.sites.as_slice(), id);
         let path = copy_path(&site.path, self.alloc)?;
         let words = shifted_exprs(self.alloc, operands.as_slice())?;
         Ok(Expr::FlagsOfWords(path, site.repr, words))

@@ -66,7 +66,7 @@ fn push_flushed(
     Ok(())
 }
 
-impl FunctionBindgen {
+impl FunctionBindgen<'_> {
     /// The names of new locals, one for each expression, which get one number.
     #[tactic(auto, unfolding(crate::specs::FlushForms::flush_prefix))]
     fn add_lets(&mut self, count: u32, es: &[Expr]) -> Result<List<Text>, OutOfMemory>

@@ -72,7 +72,7 @@ fn freed_arms(
     Ok(arms)
 }
 
-impl FunctionBindgen {
+impl FunctionBindgen<'_> {
     /// So many blocks are run by their numbers, and the one that was finished last for any other number.
     fn free_cases(&mut self, count: u32, e: &Expr) -> Result<(), OutOfMemory>
         requires operand { is_operand e.now ≡ true }

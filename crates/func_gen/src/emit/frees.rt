@@ -67,7 +67,7 @@ fn block_at(
     Ok(arguments)
 }
 
-impl FunctionBindgen {
+impl FunctionBindgen<'_> {
     /// The bytes of these arguments are freed, which have this alignment.
     fn add_free(&mut self, bytes: List<Expr>, align: ArchitectureSize) -> Result<(), OutOfMemory>
         requires inward { list_all is_inward_expr bytes ≡ true }

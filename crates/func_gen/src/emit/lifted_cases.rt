@@ -167,7 +167,7 @@ pub(crate) fn lifted_arms(
     Ok(arms)
 }
 
-impl FunctionBindgen {
+impl FunctionBindgen<'_> {
     /// The name of a new local for what the arms of a match give.
     fn add_match(&mut self, e: &Expr, arms: List<Arm>) -> Result<Text, OutOfMemory>
         requires operand { is_operand e.now ≡ true }

@@ -102,7 +102,7 @@ fn member_arms(
     Ok(arms)
 }
 
-impl FunctionBindgen {
+impl FunctionBindgen<'_> {
     /// The names of new locals, for the number that the last arm tests and for the case that a match gives.
     fn name_case(&mut self) -> Result<(Text, Text), OutOfMemory>
         ensures { IfOk result (λ names. NamesCase names.0 names.1 self.old self.new) }
@@ -157,7 +157,7 @@ impl FunctionBindgen {
         requires empty { results.old ≡ [] }
         ensures { OnOk result (Emits func_meaning resolve.now.types (instruction.VariantLift id) operands.now results.new self.old self.new) }
     {
-        let forms = variant_forms(self.alloc, resolve, self.sites.as_slice(), id)?;
+        let forms = variant_forms(self.alloc, resolve, self.tables.sites.as_slice(), id)?;
         let mut cases = forms.into_vec();
         let Some(last) = cases.pop() else {
             unreachable!()

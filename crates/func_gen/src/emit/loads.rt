@@ -40,7 +40,7 @@ pub(crate) fn small_load(inst: &Instruction) -> Option<(ArchitectureSize, SmallT
     }
 }
 
-impl FunctionBindgen {
+impl FunctionBindgen<'_> {
     pub(crate) fn load(
         &mut self,
         resolve: &Resolve,

@@ -114,7 +114,7 @@ fn lowered_arms(
     Ok(arms)
 }
 
-impl FunctionBindgen {
+impl FunctionBindgen<'_> {
     /// The arms of cases, made of the blocks that were finished last, which are kept no more. Each block gives so many results.
     fn use_arms(&mut self, cases: &[CaseForm], count: u32) -> Result<List<Arm>, OutOfMemory>
         requires blocks { HasBlocks func_meaning (replicate (length cases.now) count) self.old }

@@ -69,7 +69,7 @@ fn both_operands(alloc: Global, operands: &List<ExprOperand>) -> Result<(Expr, E
     Ok((first, copy_expr(second, alloc)?))
 }
 
-impl FunctionBindgen {
+impl FunctionBindgen<'_> {
     /// A statement that declares no name.
     pub(crate) fn add_effect(&mut self, effect: Stmt) -> Result<(), OutOfMemory>
         requires inward { are_inward_stmts (effect ∷ []) ≡ true }

@@ -13,7 +13,7 @@ use crate::scope::{LocalName, numbered};
 use rust_tree::{CallBlock, Expr, to_rust_ident};
 use wit_model::{Function, List, OutOfMemory, Resolve, Text};
 
-impl FunctionBindgen {
+impl FunctionBindgen<'_> {
     /// All code so far goes into the block of the call. There is one, and it comes before the area is asked for.
     pub(crate) fn call_method(
         &mut self,

@@ -54,7 +54,7 @@ pub(crate) fn option_forms(
     Ok(forms)
 }
 
-impl FunctionBindgen {
+impl FunctionBindgen<'_> {
     pub(crate) fn lower_option(
         &mut self,
         resolve: &Resolve,

@@ -78,7 +78,7 @@ fn let_tuple(alloc: Global, names: &[Text], e: &Expr) -> Result<Stmt, OutOfMemor
     Ok(Stmt::LetParts(Pattern::Tuple(names), e))
 }
 
-impl FunctionBindgen {
+impl FunctionBindgen<'_> {
     /// The names of new locals, one for each part of a tuple.
     #[tactic(auto, unfolding(crate::specs::PartForms::part_prefix))]
     fn add_parts(&mut self, count: u32, e: &Expr) -> Result<List<Text>, OutOfMemory>

@@ -119,7 +119,7 @@ impl Scope {
     }
 }
 
-impl FunctionBindgen {
+impl FunctionBindgen<'_> {
     /// The expression that makes a record of operands.
     fn record_expr(
         &self,
@@ -131,7 +131,7 @@ impl FunctionBindgen {
         requires reads { Reads resolve.now.types (instruction.RecordLift id) (length operands.now) }
         ensures { IfOk result (λ e. MakesRecord resolve.now.types self.now.sites id.0 operands.now e) }
     {
-        let site = record_site(self.sites.as_slice(), id);
+        let site = record_site(self.tables.sites.as_slice(), id);
         let path = copy_path(&site.lifted, self.alloc)?;
         let fields = field_exprs(self.alloc, site.fields.as_slice(), operands.as_slice())?;
         Ok(Expr::Record(path, fields))
@@ -166,7 +166,7 @@ impl FunctionBindgen {
         requires site { WritesRecord resolve.now.types self.old.sites id.0 }
         ensures { IfOk result (λ names. SplitsRecord resolve.now.types id.0 e.now names self.old self.new) }
     {
-        let site = record_site(self.sites.as_slice(), id);
+        let site = record_site(self.tables.sites.as_slice(), id);
         let names = self
             .scope
             .declare_fields(self.alloc, site.fields.as_slice())?;

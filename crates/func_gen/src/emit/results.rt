@@ -57,7 +57,7 @@ pub(crate) fn result_forms(
     Ok(forms)
 }
 
-impl FunctionBindgen {
+impl FunctionBindgen<'_> {
     pub(crate) fn lower_result(
         &mut self,
         resolve: &Resolve,

@@ -62,7 +62,7 @@ pub(crate) fn is_kept(inst: &Instruction) -> bool
     }
 }
 
-impl FunctionBindgen {
+impl FunctionBindgen<'_> {
     pub(crate) fn convert(
         &mut self,
         resolve: &Resolve,
@@ -120,7 +120,7 @@ impl FunctionBindgen {
     }
 }
 
-impl FunctionBindgen {
+impl FunctionBindgen<'_> {
     pub(crate) fn lower_bool(
         &mut self,
         resolve: &Resolve,

@@ -79,7 +79,7 @@ fn push_words(alloc: Global, t: u32, results: &mut List<ExprOperand>) -> Result<
     push_expr(results, Expr::Local(length))
 }
 
-impl FunctionBindgen {
+impl FunctionBindgen<'_> {
     /// The number of three locals.
     fn declare_three(&mut self, one: &str, two: &str, three: &str) -> Result<u32, OutOfMemory>
         ensures adds { IfOk result (λ t. Appends self.old self.new [] []) }
@@ -170,7 +170,7 @@ impl FunctionBindgen {
     }
 }
 
-impl FunctionBindgen {
+impl FunctionBindgen<'_> {
     pub(crate) fn lend_text(
         &mut self,
         resolve: &Resolve,

@@ -122,7 +122,7 @@ pub(crate) fn variant_forms(
     member_forms(alloc, name, site.cases.as_slice(), members)
 }
 
-impl FunctionBindgen {
+impl FunctionBindgen<'_> {
     pub(crate) fn lower_variant(
         &mut self,
         resolve: &Resolve,
@@ -136,7 +136,7 @@ impl FunctionBindgen {
         ensures { OnOk result (Emits func_meaning resolve.now.types (instruction.VariantLower id count) operands.now results.new self.old self.new) }
     {
         let e = only_expr(operands);
-        let forms = variant_forms(self.alloc, resolve, self.sites.as_slice(), id)?;
+        let forms = variant_forms(self.alloc, resolve, self.tables.sites.as_slice(), id)?;
         let names = self.lower_cases(forms.as_slice(), e, count)?;
         push_locals(self.alloc, names.as_slice(), results)?;
         Ok(())

@@ -14,7 +14,7 @@ pub export_body-requires-clause-writes : goal.export_body-requires-clause-writes
 export_body-requires-clause-writes c = subst (λ (sites : List (Option TypeSite)). CanWriteFunction c.args.resolve.now.types sites c.args.f.now) (sym c.in_ok-parts.ensures.written) c.requires.writes
 
 pub code_of-requires : goal.code_of-requires
-code_of-requires c = c.in_ok-body.ensures.makes.method
+code_of-requires c = c.in_ok-body.ensures.method
 
 pub returns-clause-calls : goal.returns-clause-calls
-returns-clause-calls c = calls_its_method c.args.resolve.now.types c.args.f c.in_ok-parts.parts c.in_ok-body.body c.code_of.result.call c.in_ok-body.ensures.makes c.code_of.ensures.call
+returns-clause-calls c = calls_its_method c.args.resolve.now.types c.args.f c.in_ok-parts.parts c.in_ok-body.body c.code_of.result.call c.in_ok-body.ensures c.code_of.ensures.call

@@ -4,7 +4,6 @@ use Rattle.func_gen.specs.declared.type_site.TypeSite.{TypeSite}
 use Rattle.wrapper_closing.specs.ImportBlock.{block_of}
 use Rattle.wrapper_closing.specs.Parts.{CanWriteFunction}
 use Rattle.rust_gen.specs.Body.{import_site}
-use Rattle.rust_gen.proofs.PartsOfBodies.{given-tables, same-sites}
 use Rattle.rust_gen.proofs.import.import_code.Goals as goal
 
 pub import_body-requires : goal.import_body-requires
@@ -18,18 +17,12 @@ import_body-requires c = record {
   many = ap length c.in_ok-parts.ensures.params ∙ length-map c.args.f.now.params import_site;
 }
 
-pub returns-clause-made : goal.returns-clause-made
-returns-clause-made c = record {
+pub returns : goal.returns
+returns c = record {
   parts = c.in_ok-parts.parts;
   made_of = c.in_ok-parts.ensures;
   body = c.in_ok-body.body;
-  makes = c.in_ok-body.ensures.makes;
-  is = c.in_ok-made.ensures.block ∙ ap (λ area. block_of area c.in_ok-body.body) c.in_ok-area.ensures;
-  asks = c.in_ok-made.ensures.runtime;
+  makes = c.in_ok-body.ensures;
+  is = c.import_block.ensures.block ∙ ap (λ area. block_of area c.in_ok-body.body) c.in_ok-area.ensures;
+  asks = c.import_block.ensures.runtime;
 }
-
-pub returns-clause-kept : goal.returns-clause-kept
-returns-clause-kept c = given-tables c.args.resolve.now.types c.in_ok-parts.parts c.in_ok-body.taken c.in_ok-parts.ensures.are c.in_ok-body.ensures.tables
-
-pub returns-clause-same : goal.returns-clause-same
-returns-clause-same c = same-sites c.args.tables.now c.in_ok-parts.parts c.in_ok-body.taken c.in_ok-parts.ensures.written c.in_ok-body.ensures.tables

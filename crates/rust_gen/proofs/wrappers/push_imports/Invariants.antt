@@ -4,10 +4,9 @@ use Rattle.rust_tree.specs.declared.item.FnItem.{FnItem}
 use Rattle.rust_tree.specs.declared.item.Item.TheVariants as item
 use Rattle.rust_tree.specs.declared.runtime_item.RuntimeItem.{RuntimeItem}
 use Rattle.rust_gen.specs.Asking.{ImportAsks, asked_with, bare}
-use Rattle.rust_gen.specs.Known.{AreAtHand, sites_in}
 use Rattle.rust_gen.proofs.wrappers.push_imports.Given as goal
 
 abbrev pub invariant-loop-function : goal.invariant-loop-function
 invariant-loop-function l =
-    AreAtHand l.resolve.types l.tables × (sites_in l.tables ≡ sites_in l.initial.tables) × (is : List (FnItem × List RuntimeItem)) × (l.items ≡ l.initial.items ++ map item.Import (bare is)) × (l.asked ≡ l.initial.asked ++ asked_with is)
-    × AllZip (ImportAsks l.resolve.types (sites_in l.initial.tables)) (map (λ f. f.now) (take l.function-index l.functions)) is
+    (is : List (FnItem × List RuntimeItem)) × (l.items ≡ l.initial.items ++ map item.Import (bare is)) × (l.asked ≡ l.initial.asked ++ asked_with is)
+    × AllZip (ImportAsks l.resolve.types l.tables.sites) (map (λ f. f.now) (take l.function-index l.functions)) is

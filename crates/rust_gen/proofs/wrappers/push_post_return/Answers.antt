@@ -2,7 +2,6 @@ use Rattle.std.proofs.Common.{◌≡◌, ◌∙◌, true, false, [], None, appen
 use Rattle.wrapper_meaning.specs.Shape.{result_shape}
 use Rattle.gen_accept.specs.Area.{needs_return}
 use Rattle.rust_gen.specs.Asking.{ReturnAsks}
-use Rattle.rust_gen.specs.Known.{sites_in}
 use Rattle.rust_gen.proofs.IndirectResults.{freed_by_area}
 use Rattle.rust_gen.proofs.wrappers.push_post_return.Goals as goal
 
@@ -10,13 +9,13 @@ pub push_returning-requires-clause-indirect : goal.push_returning-requires-claus
 push_returning-requires-clause-indirect c =
     freed_by_area (result_shape c.args.resolve.now.types c.args.f.now) c.requires.code.serves.result (sym c.needs_return.ensures ∙ c.if-needs_return.true)
 
-pub returns-in_ok-push_returning-clause-made : goal.returns-in_ok-push_returning-clause-made
-returns-in_ok-push_returning-clause-made c =
-    let (p, pushed, adds, asks) = c.in_ok-push_returning.ensures.made in
+pub returns-in_ok-push_returning : goal.returns-in_ok-push_returning
+returns-in_ok-push_returning c =
+    let (p, pushed, adds, asks) = c.in_ok-push_returning.ensures in
     let needs : needs_return c.args.resolve.now.types c.args.f.now ≡ true = sym c.needs_return.ensures ∙ c.if-needs_return.true in
-    (p, pushed, adds, subst (λ b. ReturnAsks c.args.resolve.now.types (sites_in c.args.tables.now) b c.args.f.now p.0 p.1) (sym needs) asks)
+    (p, pushed, adds, subst (λ b. ReturnAsks c.args.resolve.now.types c.args.tables.now.sites b c.args.f.now p.0 p.1) (sym needs) asks)
 
-pub returns-else-needs_return-clause-made : goal.returns-else-needs_return-clause-made
-returns-else-needs_return-clause-made c =
+pub returns-else-needs_return : goal.returns-else-needs_return
+returns-else-needs_return c =
     let needs : needs_return c.args.resolve.now.types c.args.f.now ≡ false = sym c.needs_return.ensures ∙ c.if-needs_return.false in
-    ((None, []), sym (append-nil c.args.items.now), sym (append-nil c.args.asked.now), subst (λ b. ReturnAsks c.args.resolve.now.types (sites_in c.args.tables.now) b c.args.f.now None []) (sym needs) (refl, refl))
+    ((None, []), sym (append-nil c.args.items.now), sym (append-nil c.args.asked.now), subst (λ b. ReturnAsks c.args.resolve.now.types c.args.tables.now.sites b c.args.f.now None []) (sym needs) (refl, refl))

@@ -5,7 +5,7 @@ use Rattle.func_gen.specs.declared.type_site.TypeSite.{TypeSite}
 use Rattle.type_sites.specs.Sites.{type_sites}
 use Rattle.rust_gen.specs.Asking.{ExportAsks, ImportAsks, asked_with, bare}
 use Rattle.rust_gen.specs.Bound.{export_items}
-use Rattle.rust_gen.specs.Known.{CanWriteFunctions, HaveCode, sites_in}
+use Rattle.rust_gen.specs.Known.{CanWriteFunctions, HaveCode}
 use Rattle.rust_gen.proofs.wrappers.push_wrappers.Goals as goal
 
 pub push_imports-requires-clause-facts : goal.push_imports-requires-clause-facts
@@ -27,22 +27,21 @@ push_imports-requires-clause-writes c =
 pub push_exports-requires-clause-writes : goal.push_exports-requires-clause-writes
 push_exports-requires-clause-writes c =
     let known = c.in_ok-tables.ensures.sites c.args.world.now c.requires.found c.requires.shallow in
-    subst (λ (sites : List (Option TypeSite)). CanWriteFunctions c.args.resolve.now.types sites (map (λ f. f.now) c.args.exports.now)) (sym (c.in_ok-push_imports.ensures.same ∙ known)) c.requires.exports_write
+    subst (λ (sites : List (Option TypeSite)). CanWriteFunctions c.args.resolve.now.types sites (map (λ f. f.now) c.args.exports.now)) (sym known) c.requires.exports_write
 
--- the tables that each body hands back are those of the world
 pub returns : goal.returns
 returns c =
     let types = c.args.resolve.now.types in
     let world = c.args.world.now in
-    let (imports, imported, adds, asks) = c.in_ok-push_imports.ensures.made in
-    let (exports, exported, areas, adds_more, asks_more) = c.in_ok-areas.ensures.made in
-    let known : sites_in c.in_ok-tables.tables ≡ type_sites c.args.resolve.now world = c.in_ok-tables.ensures.sites world c.requires.found c.requires.shallow in
+    let (imports, imported, adds, asks) = c.in_ok-push_imports.ensures in
+    let (exports, exported, areas, adds_more, asks_more) = c.in_ok-areas.ensures in
+    let known : c.in_ok-tables.tables.sites ≡ type_sites c.args.resolve.now world = c.in_ok-tables.ensures.sites world c.requires.found c.requires.shallow in
     let functions = ap (map (λ f. f.now)) c.as_slice-2.ensures.value ∙ c.in_ok-imports.ensures ∙ ap functions_in c.as_slice.ensures in (
       imports,
       exports,
       exported ∙ ap (λ is. is ++ flat_map export_items (bare exports)) imported,
       areas,
       adds_more ∙ ap (λ xs. xs ++ asked_with exports) adds,
-      subst (λ rs. AllZip (ImportAsks types rs) (imported_functions world) imports) known (subst (λ fs. AllZip (ImportAsks types (sites_in c.in_ok-tables.tables)) fs imports) functions asks),
-      subst (λ rs. AllZip (ExportAsks types rs) (map (λ f. f.now) c.args.exports.now) exports) (c.in_ok-push_imports.ensures.same ∙ known) asks_more,
+      subst (λ rs. AllZip (ImportAsks types rs) (imported_functions world) imports) known (subst (λ fs. AllZip (ImportAsks types c.in_ok-tables.tables.sites) fs imports) functions asks),
+      subst (λ rs. AllZip (ExportAsks types rs) (map (λ f. f.now) c.args.exports.now) exports) known asks_more,
     )

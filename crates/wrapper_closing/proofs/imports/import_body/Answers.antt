@@ -1,11 +1,7 @@
 use Rattle.std.proofs.Common.{true, [], ap, ◌∙◌}
-use Rattle.wit_layout.specs.declared.signature.AbiVariant.TheVariants.{GuestImport}
-use Rattle.abi_bindgen.specs.Code.{call_code}
 use Rattle.func_gen.specs.declared.function_bindgen.Code.{Code}
-use Rattle.func_gen.proofs.StillFlows.{still_flows}
 use Rattle.wrapper_closing.proofs.CallsKept.{import_uncalled}
 use Rattle.wrapper_closing.proofs.ImportDeclares.{import_closed}
-use Rattle.wrapper_closing.proofs.HandedBack.{handed_back}
 use Rattle.wrapper_closing.proofs.Returned.{import_few}
 use Rattle.wrapper_closing.proofs.StepsDeclare.{none_open}
 use Rattle.wrapper_closing.proofs.WrittenParts.{made_writes}
@@ -17,27 +13,21 @@ call-requires-clause-fresh c = let begins = c.in_ok-bindgen.ensures.begins in re
 pub call-requires-clause-writes : goal.call-requires-clause-writes
 call-requires-clause-writes c = made_writes c.args.resolve.now.types c.args.func.now true c.args.parts c.in_ok-bindgen.bindgen c.in_ok-bindgen.ensures.made c.requires.writes
 
-pub finish-body-requires-clause-closed : goal.finish-body-requires-clause-closed
-finish-body-requires-clause-closed c =
+pub finish-requires-clause-closed : goal.finish-requires-clause-closed
+finish-requires-clause-closed c =
     import_closed c.args.resolve.now.types c.args.func [] c.in_ok-bindgen.bindgen c.call.new.bindgen c.in_ok-call.ensures.flows (none_open c.in_ok-bindgen.bindgen c.in_ok-bindgen.ensures.begins.closed)
 
-pub finish-body-requires-clause-few : goal.finish-body-requires-clause-few
-finish-body-requires-clause-few c = import_few c.args.resolve.now.types c.args.func [] c.in_ok-bindgen.bindgen c.call.new.bindgen c.in_ok-call.ensures.flows
+pub finish-requires-clause-few : goal.finish-requires-clause-few
+finish-requires-clause-few c = import_few c.args.resolve.now.types c.args.func [] c.in_ok-bindgen.bindgen c.call.new.bindgen c.in_ok-call.ensures.flows
 
-pub returns-clause-tables : goal.returns-clause-tables
-returns-clause-tables c =
-    let types = c.args.resolve.now.types in
-    handed_back true c.args.parts c.in_ok-bindgen.bindgen c.call.new.bindgen c.finish-body.result.1 c.in_ok-bindgen.ensures.made
-    (still_flows types (call_code types GuestImport c.args.func) [] [] c.in_ok-bindgen.bindgen c.call.new.bindgen c.in_ok-call.ensures.flows) c.finish-body.ensures.tables
-
-pub returns-clause-makes : goal.returns-clause-makes
-returns-clause-makes c =
+pub returns : goal.returns
+returns c =
     let types = c.args.resolve.now.types in
     let old = c.in_ok-bindgen.bindgen in
     let new = c.call.new.bindgen in
     let made = c.in_ok-bindgen.ensures.made in
     let sent = c.in_ok-call.ensures in
-    let body = c.finish-body.ensures.body in
+    let body = c.finish.ensures in
     record {
       old = old;
       new = new;

@@ -1,11 +1,9 @@
 use Rattle.std.proofs.Common.{◌≤◌, false, [], sym, ap, ◌∙◌, subst, arith}
 use Rattle.abi_bindgen.specs.Code.{post_return_code}
 use Rattle.func_gen.specs.declared.function_bindgen.Code.{Code}
-use Rattle.func_gen.proofs.StillFlows.{still_flows}
 use Rattle.wit_model.proofs.WellFormedLemmas.{types_go_down}
 use Rattle.wit_layout.proofs.SignatureSteps.{result_in_table}
 use Rattle.wrapper_closing.proofs.CallsKept.{post_return_uncalled}
-use Rattle.wrapper_closing.proofs.HandedBack.{handed_back}
 use Rattle.wrapper_closing.proofs.Returned.{GivesFew}
 use Rattle.wrapper_closing.proofs.StepsDeclare.{closed_still, none_open}
 use Rattle.wrapper_closing.proofs.post_returns.post_return_body.Goals as goal
@@ -16,27 +14,21 @@ post_return-requires-clause-down c = types_go_down c.args.resolve.now c.requires
 pub post_return-requires-clause-below : goal.post_return-requires-clause-below
 post_return-requires-clause-below c = result_in_table c.args.resolve.now c.args.func.now c.requires.within
 
-pub finish-body-requires-clause-closed : goal.finish-body-requires-clause-closed
-finish-body-requires-clause-closed c =
+pub finish-requires-clause-closed : goal.finish-requires-clause-closed
+finish-requires-clause-closed c =
     closed_still c.args.resolve.now.types (post_return_code c.args.resolve.now.types c.args.func.now.result) [] [] c.in_ok-bindgen.bindgen c.post_return.new.bindgen c.in_ok-post_return.ensures.flows (none_open c.in_ok-bindgen.bindgen c.in_ok-bindgen.ensures.begins.closed)
 
-pub finish-body-requires-clause-few : goal.finish-body-requires-clause-few
-finish-body-requires-clause-few c = let none : 0 ≤ 1 = omega arith in subst GivesFew (sym c.in_ok-post_return.ensures.frees.returned) none
+pub finish-requires-clause-few : goal.finish-requires-clause-few
+finish-requires-clause-few c = let none : 0 ≤ 1 = omega arith in subst GivesFew (sym c.in_ok-post_return.ensures.frees.returned) none
 
-pub returns-clause-tables : goal.returns-clause-tables
-returns-clause-tables c =
-    let types = c.args.resolve.now.types in
-    handed_back false c.args.parts c.in_ok-bindgen.bindgen c.post_return.new.bindgen c.finish-body.result.1 c.in_ok-bindgen.ensures.made
-    (still_flows types (post_return_code types c.args.func.now.result) [] [] c.in_ok-bindgen.bindgen c.post_return.new.bindgen c.in_ok-post_return.ensures.flows) c.finish-body.ensures.tables
-
-pub returns-clause-makes : goal.returns-clause-makes
-returns-clause-makes c =
+pub returns : goal.returns
+returns c =
     let types = c.args.resolve.now.types in
     let old = c.in_ok-bindgen.bindgen in
     let new = c.post_return.new.bindgen in
     let made = c.in_ok-bindgen.ensures.made in
     let sent = c.in_ok-post_return.ensures in
-    let body = c.finish-body.ensures.body in
+    let body = c.finish.ensures in
     record {
       old = old;
       new = new;

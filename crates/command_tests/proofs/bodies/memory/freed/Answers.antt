@@ -20,9 +20,9 @@ deallocate_lists_in_types-requires-clause-words c = λ e. ((tt, tt), c.in_ok-wor
 pub deallocate_lists_in_types-requires-clause-few : goal.deallocate_lists_in_types-requires-clause-few
 deallocate_lists_in_types-requires-clause-few c = λ e. omega (arith, c.in_ok-words.ensures)
 
-pub finish-body-requires-clause-closed : goal.finish-body-requires-clause-closed
-finish-body-requires-clause-closed c =
+pub finish-requires-clause-closed : goal.finish-requires-clause-closed
+finish-requires-clause-closed c =
     none_open c.give_nothing.new.bindgen (c.in_ok-give_nothing.ensures.closed ∙ c.in_ok-deallocate_lists_in_types.ensures.frees.adds.grows.opened ∙ c.in_ok-bindgen.ensures.begins.closed)
 
-pub finish-body-requires-clause-few : goal.finish-body-requires-clause-few
-finish-body-requires-clause-few c = subst (λ given. IfSome given (λ (os : List ExprOperand). length os ≤ 1)) (sym c.in_ok-give_nothing.ensures.nothing) (omega arith)
+pub finish-requires-clause-few : goal.finish-requires-clause-few
+finish-requires-clause-few c = subst (λ given. IfSome given (λ (os : List ExprOperand). length os ≤ 1)) (sym c.in_ok-give_nothing.ensures.nothing) (omega arith)
