@@ -19,7 +19,7 @@ use Rattle.gen_accept.specs.NameText.{is_written_entry, is_written_function, is_
 use Rattle.type_defs.specs.WitForm.{is_name_char, is_nonempty, is_wit_form}
 use Rattle.rust_gen.proofs.ItemLemmas.{alone-named}
 use Rattle.wit_model.specs.Bytes.{Bytes}
-use Rattle.rust_gen.proofs.IdentLemmas.{unlike}
+use Rattle.wrapper_closing.proofs.NumberedIdents.{unlike}
 
 -- the functions of written entries have written names
 pub wit-forms : (entries : Entries) → list_all is_written_entry entries ≡ true → list_all (λ f. is_wit_form f.name.wit) (functions_in entries) ≡ true

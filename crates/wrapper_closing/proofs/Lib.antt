@@ -27,6 +27,10 @@ pub mod ImportStart
 pub mod Leaving
 pub mod LentValues
 pub mod LocalSites
+pub mod NamedEmissions
+pub mod NamedSteps
+pub mod NamedStmts
+pub mod NumberedIdents
 pub mod OneBody
 pub mod OwningValues
 pub mod Placing
