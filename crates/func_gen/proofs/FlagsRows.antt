@@ -3,7 +3,7 @@ use Rattle.std.proofs.Common.{append-nil, ◌≡◌, ℕ, zero, suc, ◌+◌, �
 use Rattle.std.specs.Prelude.{option_and_then, codes}
 use Rattle.std.specs.Option.{option_map}
 use Rattle.std.proofs.lemmas.Bool.{and_parts, eq-eqb}
-use Rattle.std.proofs.lemmas.List.{length-replicate}
+use Rattle.std.proofs.lemmas.List.{length-map, length-replicate}
 use Rattle.wit_layout.specs.Extent.{flag_words}
 use Rattle.wit_layout.specs.Flat.{words_of_flags}
 use Rattle.wit_model.specs.Bytes.{Bytes}
@@ -58,6 +58,7 @@ use Rattle.func_gen.specs.declared.operand.ExprOperand.{ExprOperand}
 use Rattle.func_gen.specs.declared.type_site.TypeSite.{TypeSite}
 use Rattle.func_gen.specs.declared.type_site.TypeSite.TheVariants as site
 use Rattle.func_gen.specs.Added.{Appends, Fresh}
+use Rattle.func_gen.specs.CodeOf.{context, emitted}
 use Rattle.func_gen.specs.Facts.{Hold}
 use Rattle.func_gen.specs.FlagsForms.{HasWordCount, IsFlagsSite, flags_made, flags_site_in, lifts_flags, lowers_flags, operands_of, shifted_from, words_of}
 use Rattle.func_gen.specs.Forms.{operand_of}
@@ -91,6 +92,10 @@ ceil_words n = grind (arith)
 
 pub words_many : (n : ℕ) → length (words_of_flags n) ≡ flag_words n
 words_many n = length-replicate (flag_words n) wasm.I32
+
+-- and one at least, where there is a member
+no_words : (n : ℕ) → 0 < n → 0 ≡ flag_words n → ⊥
+no_words n some none = grind (arith)
 
 -- 2. Flags become words
 
@@ -277,13 +282,17 @@ module _ (types : List TypeDef) (old new : FunctionBindgen) (n : Bytes) (id : Ty
         ),
       ))
 
+  lifts_told : (es : List Expr) → length es ≡ flag_words s.members → emitted (context old) (sends (FlagsLift id)) es ≡ Some (lifts_flags es s)
+  lifts_told [] none = absurd (no_words s.members is_site.some none)
+  lifts_told (e ∷ es) some = ap (option_map (lifts_flags (e ∷ es))) is_site.at
+
   pub flags_row : TakesOne old.scope (codes "flags") n new.scope → Emits func_meaning types (FlagsLift id) os (operand_of (expr.Local n) ∷ []) old new
   flags_row one = record {
     adds = let_adds old new n made [] a fresh (λ w. quiet_flags w s os ok);
     blocks = ap reverse a.finished;
     returned = a.returned;
     asked = a.asked;
-    form = form_let (sends (FlagsLift id)) (record { gives = refl; calls = refl }) os old new (codes "flags") n made [] (ap (option_map (lifts_flags (exprs_of os))) is_site.at) one a;
+    form = form_let (sends (FlagsLift id)) (record { gives = refl; calls = refl }) os old new (codes "flags") n made [] (lifts_told (exprs_of os) (length-map os (λ (o : ExprOperand). o.expr) ∙ many)) one a;
     results = refl;
     row = λ k is. subst (λ m. LiftsFlags func_meaning m os (operand_of (expr.Local n) ∷ []) old new) (one_count types id.0 s.members k is_site.count is) flags_lifted;
   }

@@ -89,7 +89,8 @@ calls_core home f params (Some ty) es t = record {
 abbrev pub names_local : List OpenBlock → Name → Option (ℕ → Emission)
 names_local opened name = option_map (λ (k : ℕ). λ t. alone (expr.Local (slot_name name k))) (innermost opened)
 
--- 2. Each step, by the expressions of its operands. Of calls there is none here: the core words of one are those of the table's types
+-- 2. Each step, by the expressions of its operands. Of calls there is none here: the core words of one are those of the table's types.
+-- Flags are made of one word at least
 
 -- what its code depends on besides
 pub record Context : Type 0 where
@@ -137,7 +138,7 @@ emitted b (sends (RecordLift id)) es = option_map (makes_record es) (record_at b
 emitted b (sends (EnumLower id)) (a ∷ []) = Some (λ t. alone (expr.EnumNumber a))
 emitted b (sends (EnumLift id)) (a ∷ []) = option_and_then (lifts_enum a) (enum_at b.sites id.0)
 emitted b (sends (FlagsLower id)) (a ∷ []) = option_map (lowers_flags a) (flags_at b.sites id.0)
-emitted b (sends (FlagsLift id)) es = option_map (lifts_flags es) (flags_at b.sites id.0)
+emitted b (sends (FlagsLift id)) (w ∷ es) = option_map (lifts_flags (w ∷ es)) (flags_at b.sites id.0)
 emitted b (sends (TupleLower n)) (a ∷ []) = Some (splits_tuple n a)
 emitted b (sends (TupleLift n)) es = Some (one_local (codes "tuple") (expr.Tuple es) [])
 emitted b (sends (StringLower false)) (a ∷ []) = Some (lends_text a)

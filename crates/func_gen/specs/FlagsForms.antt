@@ -1,5 +1,5 @@
 -- The forms of flags: the words of their bits, and what makes them of words.
-use Rattle.std.specs.Prelude.{◌≡◌, ◌≤◌, true, ℕ, zero, suc, ◌+◌, List, [], ◌∷◌, codes, length, map, Option, None, Some, option_and_then}
+use Rattle.std.specs.Prelude.{◌≡◌, ◌<◌, ◌≤◌, true, ℕ, zero, suc, ◌+◌, List, [], ◌∷◌, codes, length, map, Option, None, Some, option_and_then}
 use Rattle.wit_layout.specs.Extent.{flag_words}
 use Rattle.wit_model.specs.Bytes.{Bytes}
 use Rattle.wit_model.specs.declared.types.TypeDef.{TypeDef}
@@ -31,10 +31,11 @@ flags_at sites id = option_and_then flags_site_in (site_at sites id)
 abbrev pub IsFlags : List TypeDef → ℕ → Type 0
 IsFlags types id = (n : ℕ) × AreFlags types id n
 
--- the site of a flags type of the table, with as many members, which are held by as many bits as they have
+-- the site of a flags type of the table, with as many members, of which there is one at least. They are held by as many bits as they have
 pub record IsFlagsSite (types : List TypeDef) (sites : List (Option TypeSite)) (id : ℕ) (site : FlagsSite) : Type 0 where
   pub at : flags_at sites id ≡ Some site
   pub count : AreFlags types id site.members
+  pub some : 0 < site.members
   pub within : site.members ≤ 128
   pub held : repr_bits site.repr ≡ flags_width site.members
 

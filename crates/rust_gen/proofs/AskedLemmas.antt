@@ -11,11 +11,10 @@ use Rattle.rust_tree.specs.declared.runtime_item.RuntimeItem.{RuntimeItem}
 use Rattle.rust_tree.specs.declared.runtime_item.RuntimeItem.TheVariants.{AsI32, AsI64, AsF32, AsF64, AllocCrate, StringType, VecType, BoolLift, CharLift, StringLift, StdAllocModule, CabiDealloc, InvalidEnumDiscriminant}
 use Rattle.rust_tree.specs.Runtime.{item_name, needed_items}
 use Rattle.wrapper_run.specs.Run.{runtime_item_named}
-use Rattle.rust_tree.specs.WellNamed.{are_well_named}
 use Rattle.rust_tree.specs.Asked.{asked_by_block, asked_by_export, asked_by_item, asked_in}
 use Rattle.rust_tree.specs.declared.export.PostReturnFn.{PostReturnFn}
 use Rattle.func_gen.specs.Meaning as bodies
-use Rattle.rust_gen.specs.Body.{is_among, is_sound}
+use Rattle.rust_gen.specs.Body.{is_among, names_what_it_asks}
 use Rattle.rust_gen.specs.Bound.{Parts, export_items}
 use Rattle.rust_gen.specs.Runtime.{is_same_item, runtime_module, with_asked, with_needed}
 use Rattle.rust_gen.specs.Served.{Serves, asked_for}
@@ -195,10 +194,9 @@ found-return items (e, Some q, a) p is h =
     subst (λ q. Found items (asked_by_block q.body)) same (found-left items (asked_by_block q.body) [] (found-right items (asked_by_export e) (asked_by_block q.body ++ []) h))
 
 -- what a body asks for, where its item names it
-pub found-asked : (items : List Item) (i : Item) (runtime : List RuntimeItem) → is_sound i runtime ≡ true → Found items (asked_by_item i) → bodies.Found items runtime
+pub found-asked : (items : List Item) (i : Item) (runtime : List RuntimeItem) → names_what_it_asks i runtime ≡ true → Found items (asked_by_item i) → bodies.Found items runtime
 found-asked items i runtime h f =
-    let named = (and_parts (are_well_named [] (i ∷ [])) (list_all (is_among (asked_in (i ∷ []))) runtime) h).1 in
-    each runtime named (subst (Found items) (sym (append-nil (asked_by_item i))) f)
+    each runtime h (subst (Found items) (sym (append-nil (asked_by_item i))) f)
   where
     each : (runtime : List RuntimeItem) → list_all (is_among (asked_in (i ∷ []))) runtime ≡ true → Found items (asked_in (i ∷ [])) → bodies.Found items runtime
     each [] named f = tt

@@ -383,8 +383,8 @@ module _ (opts : Opts) (resolve : Resolve) (id : WorldId) (world : World) (known
               ap (map (λ p. p.name)) w.outside.params ∙ map-map (λ p. p.name) (printed_param types) f.params ∙ sym (map-map (λ p. p.name) import_site f.params)
               ∙ ap (λ g. map (λ p. p.name) (map import_site g.params)) (sym w.of) ∙ ap (map (λ p. p.name)) (sym code.made_of.params);
           block = code.is;
-          runtime = subst (bodies.Found tree.items) code.asks (found-asked tree.items (item.Import wrapper.0) wrapper.2.runtime wrapper.2.sound asks-import);
-          sites = sites-defined code.parts.sites code.made_of.written;
+          runtime = subst (bodies.Found tree.items) code.asks (found-asked tree.items (item.Import wrapper.0) wrapper.2.runtime wrapper.2.names asks-import);
+          sites = sites-defined code.parts.tables.now.sites code.made_of.written;
           answers =
               subst (λ ty. AnswersAs tree.items ty (result_shape types w.func.now)) (ap (λ g. printed_result types g.result) w.of ∙ sym w.outside.answer)
               (printed_results_answer tree.items (result_shape types w.func.now) (printed_result types w.func.now.result) (result-printed w.func.now uses));
@@ -548,8 +548,8 @@ module _ (opts : Opts) (resolve : Resolve) (id : WorldId) (world : World) (known
           ap arg_names w.made.outside.params ∙ sym (named_so (arg_names (return_args (passed types f)))) ∙ ap site_names (sym w.made.code.made_of.params);
       pinned = ap arg_types w.made.outside.params ∙ types_of_args 0 (result_types (passed types f));
       block = w.made.code.is;
-      runtime = subst (bodies.Found tree.items) w.made.code.asks (found-asked tree.items (item.PostReturn p) w.runtime w.sound (found-return tree.items parts.0 p is asked-parts));
-      sites = sites-defined w.made.code.parts.sites w.made.code.made_of.written;
+      runtime = subst (bodies.Found tree.items) w.made.code.asks (found-asked tree.items (item.PostReturn p) w.runtime w.names (found-return tree.items parts.0 p is asked-parts));
+      sites = sites-defined w.made.code.parts.tables.now.sites w.made.code.made_of.written;
       sized = shared_sized results (result_shape types f) tree shared;
       result = result-direct f uses-here;
       lists = needs;
@@ -619,8 +619,8 @@ module _ (opts : Opts) (resolve : Resolve) (id : WorldId) (world : World) (known
               ∙ ap site_names (sym code.made_of.params);
           signature = subst (λ g. HasCoreSignature (passed types g) export) (sym w.of) signature-is;
           block = code.is.rest;
-          runtime = subst (bodies.Found tree.items) code.is.asks (found-asked tree.items (item.Export export) written.runtime written.sound asks-export);
-          sites = sites-defined code.parts.sites code.made_of.written;
+          runtime = subst (bodies.Found tree.items) code.is.asks (found-asked tree.items (item.Export export) written.runtime written.names asks-export);
+          sites = sites-defined code.parts.tables.now.sites code.made_of.written;
           called = gives-as_called;
           area = subst (λ g. SharesArea results (result_shape types g) tree) (sym w.of) shared;
           passes =

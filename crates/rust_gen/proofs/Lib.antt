@@ -19,3 +19,4 @@ mod SkipLemmas
 pub mod IndirectResults
 pub mod TreeLemmas
 pub mod WrapperLemmas
+mod WrapperNames

@@ -16,7 +16,6 @@ use Rattle.rust_tree.specs.declared.area.StaticArea.{StaticArea}
 use Rattle.rust_tree.specs.declared.export.PostReturnFn.{PostReturnFn}
 use Rattle.rust_tree.specs.declared.item.FnItem.{FnItem}
 use Rattle.rust_tree.specs.declared.item.Item.{Item}
-use Rattle.rust_tree.specs.Asked.{asked_in}
 use Rattle.rust_tree.specs.declared.item.Item.TheVariants as item
 use Rattle.rust_tree.specs.declared.runtime_item.RuntimeItem.{RuntimeItem}
 use Rattle.rust_tree.specs.Ident.{is_ident, may_follow, rust_ident}
@@ -26,7 +25,9 @@ use Rattle.gen_accept.specs.declared.opts.Opts.{Opts}
 use Rattle.gen_accept.specs.TypeOpts.{type_opts}
 use Rattle.func_gen.specs.declared.type_site.TypeSite.{TypeSite}
 use Rattle.type_sites.specs.Sites.{type_sites}
-use Rattle.rust_gen.specs.Body.{ArePartsWritten, IsWritten, ReturnWritten, is_among, is_sound}
+use Rattle.type_sites.proofs.SitesNamed.{sites-are-named}
+use Rattle.wrapper_closing.specs.Named.{AreNamedSites}
+use Rattle.rust_gen.specs.Body.{ArePartsWritten, IsWritten, ReturnWritten}
 use Rattle.rust_gen.specs.Bound.{AreItems, Parts, area_items, area_of, areas_of, export_items, file_area}
 use Rattle.rust_gen.specs.Known.{IsKnown}
 use Rattle.rust_gen.proofs.TreeLemmas.{own-first}
@@ -50,6 +51,7 @@ use Rattle.rust_gen.proofs.EntryLemmas.{wit-forms}
 use Rattle.rust_gen.proofs.IdentLemmas.{args-named, guest_ident, part_of, return-quotable}
 use Rattle.type_defs.proofs.NamedTextLemmas.{docs-named, wit-quotable}
 use Rattle.rust_gen.proofs.SignatureLemmas.{AreNamedTypes, result-named, trait_params-named}
+use Rattle.rust_gen.proofs.WrapperNames.{export-named, import-named, return-named}
 
 -- what is known of functions
 
@@ -155,44 +157,50 @@ runtime-named (i ∷ asked) = refl
 items-append : (xs ys : List Item) → list_all is_named_item xs ≡ true → list_all is_named_item ys ≡ true → list_all is_named_item (xs ++ ys) ≡ true
 items-append xs ys h g = list_all-append is_named_item xs ys ∙ and_from (list_all is_named_item xs) (list_all is_named_item ys) h g
 
--- the wrappers, whose names were tested
+-- the wrappers
 
-sound-named : (i : Item) (runtime : List RuntimeItem) → is_sound i runtime ≡ true → is_named_item i ≡ true
-sound-named i runtime h =
-    let named = (and_parts (are_well_named [] (i ∷ [])) (list_all (is_among (asked_in (i ∷ []))) runtime) h).0 in
-    (and_parts (is_named_item i) true named).0
+module _ (r : Resolve) (checked : IsWellFormed r) (sites : List (Option TypeSite)) (named : AreNamedSites sites) where
+  imports-named : (fs : List Function) (ws : List FnItem) → Idents fs → Params fs → Quotables fs → Typed r checked fs → AllZip (IsWritten r.types sites) fs ws → list_all is_named_item (map item.Import ws) ≡ true
+  imports-named [] [] n p q t z = refl
+  imports-named [] (w ∷ ws) n p q t z = absurd z
+  imports-named (f ∷ fs) [] n p q t z = absurd z
+  imports-named (f ∷ fs) (w ∷ ws) n p q t z =
+      let names = and_parts (is_ident (rust_ident f.name)) (list_all (λ f. is_ident (rust_ident f.name)) fs) n in
+      let ps = and_parts (list_all is_ident (param_idents f)) (list_all (λ f. list_all is_ident (param_idents f)) fs) p in
+      let quoted = and_parts (is_quotable f.name.wit) (list_all (λ f. is_quotable f.name.wit) fs) q in
+      let params : AreNamedTypes r.types (roots.param_types f) = λ ty c. t 0 f refl ty (Contains-append_left (roots.param_types f) (roots.result_types f) ty c) in
+      let answer : AreNamedTypes r.types (roots.result_types f) = λ ty c. t 0 f refl ty (Contains-append_right (roots.param_types f) (roots.result_types f) ty c) in
+      and_from (is_named_item (item.Import w)) (list_all is_named_item (map item.Import ws)) (import-named r checked sites named f w z.0.runtime names.0 ps.0 quoted.0 params answer z.0.made)
+      (imports-named fs ws names.1 ps.1 quoted.1 (λ nth g e. t (suc nth) g e) z.1)
 
-imports-named : (types : List TypeDef) (sites : List (Option TypeSite)) (fs : List Function) (ws : List FnItem) → AllZip (IsWritten types sites) fs ws → list_all is_named_item (map item.Import ws) ≡ true
-imports-named types sites [] [] z = refl
-imports-named types sites [] (w ∷ ws) z = absurd z
-imports-named types sites (f ∷ fs) [] z = absurd z
-imports-named types sites (f ∷ fs) (w ∷ ws) z =
-    and_from (is_named_item (item.Import w)) (list_all is_named_item (map item.Import ws)) (sound-named (item.Import w) z.0.runtime z.0.sound) (imports-named types sites fs ws z.1)
+  parts-named : (f : Function) (x : Parts) → is_ident (rust_ident f.name) ≡ true → is_ident_part f.name.snake ≡ true → ArePartsWritten r.types sites f x → list_all is_named_item (export_items x) ≡ true
+  parts-named f (e, o, a) name base w = go (needs_return r.types f) o w.1
+    where
+      own : is_named_item (item.Export e) ≡ true
+      own = export-named r checked sites named f e a w.0.runtime name base w.0.made
 
-parts-named : (types : List TypeDef) (sites : List (Option TypeSite)) (f : Function) (x : Parts) → ArePartsWritten types sites f x → list_all is_named_item (export_items x) ≡ true
-parts-named types sites f (e, o, a) w = go (needs_return types f) o w.1
-  where
-    own : is_named_item (item.Export e) ≡ true
-    own = sound-named (item.Export e) w.0.runtime w.0.sound
+      go : (b : Bool) (o : Option PostReturnFn) → ReturnWritten r.types sites b f o → list_all is_named_item (export_items (e, o, a)) ≡ true
+      go true o (q, is, written) =
+          let alone : is_named_item (item.PostReturn q) ≡ true = return-named r checked sites named f q written.runtime base written.made in
+          ap (λ o. list_all is_named_item (export_items (e, o, a))) is ∙ and_from (is_named_item (item.Export e)) (is_named_item (item.PostReturn q) && true) own (and_from (is_named_item (item.PostReturn q)) true alone refl)
+      go false o is = ap (λ o. list_all is_named_item (export_items (e, o, a))) is ∙ and_from (is_named_item (item.Export e)) true own refl
 
-    go : (b : Bool) (o : Option PostReturnFn) → ReturnWritten types sites b f o → list_all is_named_item (export_items (e, o, a)) ≡ true
-    go true o (q, is, written) =
-        let alone : is_named_item (item.PostReturn q) ≡ true = sound-named (item.PostReturn q) written.runtime written.sound in
-        ap (λ o. list_all is_named_item (export_items (e, o, a))) is ∙ and_from (is_named_item (item.Export e)) (is_named_item (item.PostReturn q) && true) own (and_from (is_named_item (item.PostReturn q)) true alone refl)
-    go false o is = ap (λ o. list_all is_named_item (export_items (e, o, a))) is ∙ and_from (is_named_item (item.Export e)) true own refl
-
-exports-named : (types : List TypeDef) (sites : List (Option TypeSite)) (fs : List Function) (es : List Parts) → AllZip (ArePartsWritten types sites) fs es → list_all is_named_item (flat_map export_items es) ≡ true
-exports-named types sites [] [] z = refl
-exports-named types sites [] (x ∷ es) z = absurd z
-exports-named types sites (f ∷ fs) [] z = absurd z
-exports-named types sites (f ∷ fs) (x ∷ es) z =
-    list_all-append is_named_item (export_items x) (flat_map export_items es)
-    ∙ and_from (list_all is_named_item (export_items x)) (list_all is_named_item (flat_map export_items es)) (parts-named types sites f x z.0) (exports-named types sites fs es z.1)
+  exports-named : (fs : List Function) (es : List Parts) → Idents fs → Bases fs → AllZip (ArePartsWritten r.types sites) fs es → list_all is_named_item (flat_map export_items es) ≡ true
+  exports-named [] [] n b z = refl
+  exports-named [] (x ∷ es) n b z = absurd z
+  exports-named (f ∷ fs) [] n b z = absurd z
+  exports-named (f ∷ fs) (x ∷ es) n b z =
+      let names = and_parts (is_ident (rust_ident f.name)) (list_all (λ f. is_ident (rust_ident f.name)) fs) n in
+      let based = and_parts (is_ident_part f.name.snake) (list_all (λ f. is_ident_part f.name.snake) fs) b in
+      list_all-append is_named_item (export_items x) (flat_map export_items es)
+      ∙ and_from (list_all is_named_item (export_items x)) (list_all is_named_item (flat_map export_items es)) (parts-named f x names.0 based.0 z.0) (exports-named fs es names.1 based.1 z.1)
 
 -- the whole
 
 -- what a world's declared names are known to be
 record AreNamed (world : World) : Type 0 where
+  imports : Idents (imported_functions world)
+  import_params : Params (imported_functions world)
   exports : Idents (exported_functions world)
   exported : Bases (exported_functions world)
   export_params : Params (exported_functions world)
@@ -201,6 +209,8 @@ record AreNamed (world : World) : Type 0 where
 known : (opts : Opts) (r : Resolve) (world : World) → declares_well opts r world ≡ true → AreNamed world
 unfolding macro_idents
 known opts r world h = record {
+  imports = names.import_idents opts r world h;
+  import_params = names.import_params opts r world h;
   exports = method_idents opts r world h;
   exported = bases (exported_functions world) (export_idents opts r world h);
   export_params = names.export_params opts r world h;
@@ -214,10 +224,15 @@ known opts r world h = record {
 items-named : (opts : Opts) (r : Resolve) (id : WorldId) (world : World) (items : List Item) → IsKnown opts r id world → AreItems (IsWritten r.types (type_sites r world)) (ArePartsWritten r.types (type_sites r world)) opts r id world items → list_all is_named_item items ≡ true
 items-named opts r id world items w a =
     let k = known opts r world w.declared in
+    let is : List Function = imported_functions world in
     let es : List Function = exported_functions world in
     let parts = and_parts (is_wit_form world.name.wit && list_all is_written_entry world.imports) (list_all is_written_entry world.exports) w.written in
+    let imports : Quotables is = quotables is (wit-forms world.imports (and_parts (is_wit_form world.name.wit) (list_all is_written_entry world.imports) parts.0).1) in
     let exports : Quotables es = quotables es (wit-forms world.exports parts.1) in
+    let lent : Typed r w.well is = λ nth f e ty c. functions-named (type_opts opts) r id world a.types w.types a.defined ty (w.imports_use nth f e ty c).used in
     let typed : Typed r w.well es = λ nth f e ty c. functions-named (type_opts opts) r id world a.types w.types a.defined ty (w.exports_use nth f e ty c).used in
+    let sites : List (Option TypeSite) = type_sites r world in
+    let named : AreNamedSites sites = sites-are-named (type_opts opts) r id world a.types w.types a.defined in
     let traits : list_all is_named_item (trait_and_macro r.types world) ≡ true = any-named es (item.Trait (guest_trait r.types es) ∷ item.ModuleMacro (world_macro r.types world) ∷ []) (λ full.
     and_from (is_named_trait (guest_trait r.types es)) (is_named_module_macro (world_macro r.types world) && true) (trait-named r w.well es k.exports k.export_params typed)
     (and_from (is_named_module_macro (world_macro r.types world)) true
@@ -229,8 +244,8 @@ items-named opts r id world items w a =
     let definitions : list_all is_named_item (map item.Type a.types) ≡ true = list_all-map is_named_item item.Type a.types ∙ definitions-named (type_opts opts) r id world a.types w.types a.defined in
     ap (list_all is_named_item) (a.are ∙ own-first r.types a.types a.wrappers a.exports world (runtime ++ last_macro world))
     ∙ items-append (map item.Type a.types) (map item.Import a.wrappers ++ (flat_map export_items a.exports ++ (trait_and_macro r.types world ++ (area ++ (runtime ++ last_macro world))))) definitions
-    (items-append (map item.Import a.wrappers) (flat_map export_items a.exports ++ (trait_and_macro r.types world ++ (area ++ (runtime ++ last_macro world)))) (imports-named r.types (type_sites r world) (imported_functions world) a.wrappers a.wraps)
-    (items-append (flat_map export_items a.exports) (trait_and_macro r.types world ++ (area ++ (runtime ++ last_macro world))) (exports-named r.types (type_sites r world) es a.exports a.exported)
+    (items-append (map item.Import a.wrappers) (flat_map export_items a.exports ++ (trait_and_macro r.types world ++ (area ++ (runtime ++ last_macro world)))) (imports-named r w.well sites named is a.wrappers k.imports k.import_params imports lent a.wraps)
+    (items-append (flat_map export_items a.exports) (trait_and_macro r.types world ++ (area ++ (runtime ++ last_macro world))) (exports-named r w.well sites named es a.exports k.exports k.exported a.exported)
     (items-append (trait_and_macro r.types world) (area ++ (runtime ++ last_macro world)) traits
     (items-append area (runtime ++ last_macro world) (area-named (file_area (areas_of a.exports))) (items-append runtime (last_macro world) (runtime-named asked) last)))))
 

@@ -15,12 +15,11 @@ use Rattle.rust_tree.specs.declared.item.Item.TheVariants as item
 use Rattle.rust_tree.specs.declared.runtime_item.RuntimeItem.{RuntimeItem}
 use Rattle.rust_tree.specs.declared.type_item.TypeItem.{TypeItem}
 use Rattle.rust_tree.specs.Asked.{asked_by_block, asked_by_export, asked_by_fn, asked_by_item, asked_by_signature, asked_in}
-use Rattle.rust_tree.specs.WellNamed.{are_well_named}
 use Rattle.gen_accept.specs.Area.{needs_return}
 use Rattle.gen_accept.specs.Emitted.{exported_functions, imported_functions}
 use Rattle.func_gen.specs.declared.type_site.TypeSite.{TypeSite}
 use Rattle.rust_gen.specs.Asking.{ExportAsks, ImportAsks, ReturnAsks, asked_order, asked_with, asking_items, bare}
-use Rattle.rust_gen.specs.Body.{ArePartsWritten, IsWritten, ReturnWritten, is_among, is_sound}
+use Rattle.rust_gen.specs.Body.{ArePartsWritten, IsWritten, ReturnWritten, is_among, names_what_it_asks}
 use Rattle.rust_gen.specs.Bound.{Parts, area_of, export_items, return_items}
 use Rattle.rust_gen.specs.Exported.{trait_and_macro}
 use Rattle.rust_gen.specs.Runtime.{is_same_item, runtime_items}
@@ -59,10 +58,8 @@ all-among x (y ∷ xs) ys h k =
     go here later (inl e) = subst (λ z. IsAmong z ys) (is-same y x e) here
     go here later (inr k) = later k
 
-sound-among : (i : Item) (runtime : List RuntimeItem) → is_sound i runtime ≡ true → (x : RuntimeItem) → IsAmong x runtime → IsAmong x (asked_by_item i)
-sound-among i runtime h x k =
-    let named = (and_parts (are_well_named [] (i ∷ [])) (list_all (is_among (asked_in (i ∷ []))) runtime) h).1 in
-    subst (IsAmong x) (append-nil (asked_by_item i)) (all-among x runtime (asked_in (i ∷ [])) named k)
+asked-among : (i : Item) (runtime : List RuntimeItem) → names_what_it_asks i runtime ≡ true → (x : RuntimeItem) → IsAmong x runtime → IsAmong x (asked_by_item i)
+asked-among i runtime h x k = subst (IsAmong x) (append-nil (asked_by_item i)) (all-among x runtime (asked_in (i ∷ [])) h k)
 
 module _ (types : List TypeDef) (sites : List (Option TypeSite)) where
   import-among : (f : Function) (i : FnItem × List RuntimeItem) → ImportAsks types sites f i → (x : RuntimeItem) → IsAmong x i.1 → IsAmong x (asked_by_fn i.0)
@@ -73,7 +70,7 @@ module _ (types : List TypeDef) (sites : List (Option TypeSite)) where
 
       go : IsAmong x named ⊎ IsAmong x a.0.runtime → IsAmong x (asked_by_fn i.0)
       go (inl k) = among-left x named (asked_by_block i.0.body) k
-      go (inr k) = sound-among (item.Import i.0) a.0.runtime a.0.sound x k
+      go (inr k) = asked-among (item.Import i.0) a.0.runtime a.0.names x k
 
   imports-among : (fs : List Function) (is : List (FnItem × List RuntimeItem)) → AllZip (ImportAsks types sites) fs is → (x : RuntimeItem) → IsAmong x (asked_with is) → IsAmong x (asked_in (map item.Import (bare is)))
   imports-among [] [] z x h = h
@@ -87,14 +84,14 @@ module _ (types : List TypeDef) (sites : List (Option TypeSite)) where
 
   return-among : (b : Bool) (f : Function) (p : Option PostReturnFn) (asked : List RuntimeItem) → ReturnAsks types sites b f p asked → (x : RuntimeItem) → IsAmong x asked → IsAmong x (asked_in (return_items p))
   return-among true f p asked (q, is, w, e) x h =
-      subst (λ p. IsAmong x (asked_in (return_items p))) (sym is) (among-left x (asked_by_block q.body) [] (sound-among (item.PostReturn q) w.runtime w.sound x (subst (IsAmong x) e h)))
+      subst (λ p. IsAmong x (asked_in (return_items p))) (sym is) (among-left x (asked_by_block q.body) [] (asked-among (item.PostReturn q) w.runtime w.names x (subst (IsAmong x) e h)))
   return-among false f p asked (is, e) x h = let none : IsAmong x [] = subst (IsAmong x) e h in absurd (cc)
 
   export-among : (f : Function) (e : Parts × List RuntimeItem) → ExportAsks types sites f e → (x : RuntimeItem) → IsAmong x e.1 → IsAmong x (asked_in (export_items e.0))
   export-among f ((w, p, area), asked) (own, returning, is, wrapper, back) x h = go (among-split x own returning (subst (IsAmong x) is h))
     where
       go : IsAmong x own ⊎ IsAmong x returning → IsAmong x (asked_in (export_items (w, p, area)))
-      go (inl k) = among-left x (asked_by_export w) (asked_in (return_items p)) (sound-among (item.Export w) wrapper.0.runtime wrapper.0.sound x (subst (IsAmong x) wrapper.1 k))
+      go (inl k) = among-left x (asked_by_export w) (asked_in (return_items p)) (asked-among (item.Export w) wrapper.0.runtime wrapper.0.names x (subst (IsAmong x) wrapper.1 k))
       go (inr k) = among-right x (asked_by_export w) (asked_in (return_items p)) (return-among (needs_return types f) f p returning back x k)
 
   exports-among : (fs : List Function) (es : List (Parts × List RuntimeItem)) → AllZip (ExportAsks types sites) fs es → (x : RuntimeItem) → IsAmong x (asked_with es) → IsAmong x (asked_in (flat_map export_items (bare es)))

@@ -6,6 +6,7 @@ pub mod PartTypes
 pub mod PrintedForms
 pub mod PrintedTypes
 pub mod SitesDefined
+pub mod SitesNamed
 pub mod SitesWritten
 pub mod SiteLemmas
 pub mod TextShapes

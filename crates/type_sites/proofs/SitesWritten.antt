@@ -1,5 +1,5 @@
 -- Each type that a function of a world reaches can be written: where it is of a kind that has sites, its site fits it.
-use Rattle.std.proofs.Common.{◌≡◌, ℕ, zero, suc, ◌+◌, ◌*◌, ◌^◌, Bool, true, false, cond, not, ◌||◌, nat_le, List, [], ◌∷◌, length, map, Option, None, Some, is_some, refl, sym, ap, ◌∙◌, subst, arith}
+use Rattle.std.proofs.Common.{◌≡◌, ℕ, zero, suc, ◌+◌, ◌*◌, ◌^◌, ◌<◌, Bool, true, false, cond, not, ◌||◌, nat_le, List, [], ◌∷◌, length, map, Option, None, Some, is_some, refl, sym, ap, ◌∙◌, subst, arith}
 use Rattle.std.specs.Prelude.{IfSome, option_and_then, slice_get}
 use Rattle.std.specs.List.{Contains, enumerate_from}
 use Rattle.std.specs.Option.{option_to_list}
@@ -21,7 +21,9 @@ use Rattle.wit_model.specs.declared.types.TypeDefKind.{TypeDefKind}
 use Rattle.wit_model.specs.declared.types.TypeDefKind.TheVariants as kind
 use Rattle.wit_model.specs.declared.types.WitType.{WitType}
 use Rattle.wit_model.specs.declared.world.World.{World}
+use Rattle.wit_model.specs.Members.{has_members}
 use Rattle.wit_model.proofs.AllLemmas.{all_at}
+use Rattle.wit_model.proofs.WellFormedLemmas.{has_members_at}
 use Rattle.wit_layout.specs.Extent.{discriminant_grain}
 use Rattle.rust_tree.specs.Ident.{rust_ident, type_ident}
 use Rattle.rust_tree.specs.declared.expr.CastType.{CastType}
@@ -73,6 +75,12 @@ enum-cast n = go (nat_le n 256) (nat_le n 65536)
     go true b = (cast.U8, refl)
     go false true = (cast.U16, refl)
     go false false = (cast.U32, refl)
+
+-- flags have a member
+one-at-least : (members : List Member) → has_members (kind.Flags members) ≡ true → 0 < length members
+unfolding has_members
+one-at-least [] h = absurd cc
+one-at-least (m ∷ members) h = omega arith
 
 -- 2. The sites of a table
 
@@ -136,6 +144,7 @@ module _ (opts : TypeOpts) (r : Resolve) (w : WorldId) (world : World) (d : AreD
         is_site = record {
           at = ap (option_and_then flags_site_in) (there (kind.Flags members) is);
           count = (members, of-kind (kind.Flags members) is, refl);
+          some = one-at-least members (subst (λ k. has_members k ≡ true) is (has_members_at r id.0 t d.checked.unbroken at));
           within = leb-true (length members) 128 (ap is_defined_kind (sym is) ∙ all_at (λ t. is_defined_kind t.kind) r.types id.0 t d.kinds at);
           held = flags-held (length members);
         };

@@ -1,5 +1,5 @@
 -- Laws: the definitions of a world define each type that its functions use as it is written, whatever other items stand behind them; and
--- each such type can be written.
+-- each such type can be written, by names that may stand in a tree.
 use Rattle.std.specs.Prelude.{◌≡◌, Bool, true, not, List}
 use Rattle.std.specs.List.{list_all}
 use Rattle.wit_model.specs.declared.function.Function.{Function}
@@ -17,6 +17,7 @@ use Rattle.type_defs.specs.TypeNames.{are_type_names}
 use Rattle.type_defs.specs.Used.{UsesTypes, defined_types}
 use Rattle.func_gen.specs.CalledCases.{is_other_module}
 use Rattle.func_gen.specs.TypeSites.{AreDefined, CanBeDefined}
+use Rattle.wrapper_closing.specs.Named.{AreNamedSites}
 use Rattle.wrapper_closing.specs.Parts.{CanWriteFunction}
 use Rattle.type_sites.specs.PrintedLaws.{file_of}
 use Rattle.type_sites.specs.Sites.{type_sites}
@@ -27,6 +28,10 @@ SitesAreDefined = (opts : TypeOpts) (r : Resolve) (id : WorldId) (world : World)
 -- so definitions can
 abbrev pub SitesCanBeDefined : Type 0
 SitesCanBeDefined = (opts : TypeOpts) (r : Resolve) (id : WorldId) (world : World) (defs : List TypeItem) → AreDefinable opts r id world → AreDefinitions opts r id world defs → CanBeDefined (type_sites r world)
+
+-- and the names of sites are identifiers
+abbrev pub SitesAreNamed : Type 0
+SitesAreNamed = (opts : TypeOpts) (r : Resolve) (id : WorldId) (world : World) (defs : List TypeItem) → AreDefinable opts r id world → AreDefinitions opts r id world defs → AreNamedSites (type_sites r world)
 
 -- no type has the name of `_rt`, or of a number type with functions
 abbrev pub have_own_names : List TypeDef → Bool

@@ -9,7 +9,7 @@ ghost use Rattle.type_sites.specs.PrintedLaws.{
   TypesAreDirect,
   TypesArePrinted,
 };
-ghost use Rattle.type_sites.specs.SiteLaws.{SitesAreDefined, SitesCanBeDefined, SitesCanBeWritten};
+ghost use Rattle.type_sites.specs.SiteLaws.{SitesAreDefined, SitesAreNamed, SitesCanBeDefined, SitesCanBeWritten};
 
 /// A type that a function of a world uses is printed as its shape in each file that begins with the definitions of the world, and so are the
 /// parameters and the result of a function that uses such types. The types of an imported function's parameters are lent of such.
@@ -29,9 +29,10 @@ pub fn direct_law()
 
 /// Each type that has a site is defined as the site says, in each file that begins with the definitions of the world. So there are
 /// definitions for these types, whatever file they are written into. And each type that a function reaches has a site that fits it, where it
-/// is of a kind that has sites.
+/// is of a kind that has sites. The names of sites are identifiers.
 pub fn site_law()
     ensures defined { SitesAreDefined }
     ensures can_be { SitesCanBeDefined }
     ensures written { SitesCanBeWritten }
+    ensures named { SitesAreNamed }
 {}

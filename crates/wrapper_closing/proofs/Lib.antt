@@ -27,6 +27,8 @@ pub mod ImportStart
 pub mod Leaving
 pub mod LentValues
 pub mod LocalSites
+pub mod NamedBindgens
+pub mod NamedBodies
 pub mod NamedEmissions
 pub mod NamedSteps
 pub mod NamedStmts

@@ -1,5 +1,5 @@
 -- What a step emits has identifiers alone as names, where all names before it are.
-use Rattle.std.proofs.Common.{◌≡◌, ◌<◌, ℕ, zero, suc, ◌+◌, Bool, true, false, ◌&&◌, List, [], ◌∷◌, length, map, Option, None, Some, refl, sym, ap, ◌∙◌, subst, zip, arith}
+use Rattle.std.proofs.Common.{◌≡◌, ℕ, zero, suc, ◌+◌, Bool, true, false, ◌&&◌, List, [], ◌∷◌, map, Option, None, Some, refl, sym, ap, ◌∙◌, subst, zip}
 use Rattle.std.specs.Prelude.{codes, option_and_then, option_map, slice_get}
 use Rattle.std.specs.List.{AllByRecursion, list_all}
 use Rattle.std.proofs.lemmas.Bool.{and_parts}
@@ -37,7 +37,7 @@ use Rattle.func_gen.specs.Area.{pointer_to}
 use Rattle.func_gen.specs.CastForms.{cast_expr, cast_result, cast_stmts, casts_from, core_call, core_path, f32_names, f64_names, from_names, needs_slot, new_slot_names, slot_prefix, step_expr, stmts_from, zero_expr}
 use Rattle.wrapper_values.specs.declared.core_words.CoreFn.{CoreFn}
 use Rattle.wrapper_values.specs.declared.core_words.CoreFn.TheVariants as core_fn
-use Rattle.func_gen.specs.CodeOf.{Context, emitted, hands_text, local_of, local_step, makes_record, splits_record}
+use Rattle.func_gen.specs.CodeOf.{Context, emitted, gives_text, hands_text, local_of, local_step, makes_record, splits_record}
 use Rattle.func_gen.specs.Emission.{Emission, alone, one_local}
 use Rattle.func_gen.specs.EnumForms.{case_cast, case_let, enum_at, enum_site_in, lift_path, lifts_enum}
 use Rattle.func_gen.specs.FlagsForms.{flags_at, flags_made, flags_site_in, lifts_flags, lowers_flags, shifted_from, words_of}
@@ -51,7 +51,7 @@ use Rattle.func_gen.specs.Scope.{with_number}
 use Rattle.func_gen.specs.Slot.{name_prefix, slot_name}
 use Rattle.func_gen.specs.TextForms.{buffer_stmts, forget_names, forget_path, forgotten, len_name, ptr_name, taken_stmts, vec_name}
 use Rattle.func_gen.specs.TypeSites.{site_at}
-use Rattle.wrapper_closing.specs.Named.{IsNamedOperand, is_named_site}
+use Rattle.wrapper_closing.specs.Named.{AreNamedSites, IsNamedOperand, is_named_site}
 use Rattle.wrapper_closing.proofs.NamedStmts.{AreNamed, alone_named, call_named, expr_named, is_named-record, let_named, longer_path, more_named, one_named, parts_named, runtime_calls_named, slot_named, small_named, store_named, then_named, two_true, write_named}
 use Rattle.wrapper_closing.proofs.NumberedIdents.{fields_idents, local_ident, part_ident, parts_idents}
 
@@ -218,6 +218,10 @@ hands_named name t h =
       buffer_results t,
     )
 
+gives_named : (a : Expr) (o : Option Bytes) → local_of a ≡ o → is_named_expr a ≡ true → (t : ℕ) → IsNamedEmission (gives_text a o t)
+gives_named a None is h t = (buffer_named t a h, buffer_results t)
+gives_named a (Some name) is h t = hands_named name t (name_known a name is h)
+
 takes_named : (t : ℕ) (address n : Expr) → is_named_expr address ≡ true → is_named_expr n ≡ true → AreNamed (taken_stmts t address n)
 takes_named t address n h g =
     let len = local_ident (codes "len") t refl in
@@ -242,9 +246,6 @@ lets_named (n ∷ names) (e ∷ es) h g =
     then_named (stmt.Let n e) (lets_of names es) (let_named n e i.0 k.0) (lets_named names es i.1 k.1)
 
 -- records, enums and flags, as their sites are
-
-abbrev pub AreNamedSites : List (Option TypeSite) → Type 0
-AreNamedSites sites = AllByRecursion (λ s. is_absent_or is_named_site s ≡ true) sites
 
 pub site_named : (sites : List (Option TypeSite)) (id : ℕ) (s : TypeSite) → AreNamedSites sites → site_at sites id ≡ Some s → is_named_site s ≡ true
 site_named [] id s all is = absurd cc
@@ -356,9 +357,8 @@ shifted_named : (by : ℕ) (es : List Expr) → AreNamedExprs es → list_all (�
 shifted_named by [] h = refl
 shifted_named by (e ∷ es) h = let parts = and_parts (is_named_expr e) (list_all is_named_expr es) h in two_true (is_named_expr e) _ parts.0 (shifted_named (32 + by) es parts.1)
 
-flags_lifted : (es : List Expr) (s : FlagsSite) → are_path_names s.path.names ≡ true → 0 < length es → AreNamedExprs es → is_named_expr (flags_made s es) ≡ true
-flags_lifted [] s path some h = absurd (omega (arith, some))
-flags_lifted (e ∷ es) s path some h = is_named-words s.path s.repr (shifted_from 0 (e ∷ es)) ∙ two_true (are_path_names s.path.names) _ path (shifted_named 0 (e ∷ es) h)
+flags_lifted : (e : Expr) (es : List Expr) (s : FlagsSite) → are_path_names s.path.names ≡ true → AreNamedExprs (e ∷ es) → is_named_expr (flags_made s (e ∷ es)) ≡ true
+flags_lifted e es s path h = is_named-words s.path s.repr (shifted_from 0 (e ∷ es)) ∙ two_true (are_path_names s.path.names) _ path (shifted_named 0 (e ∷ es) h)
 
 -- blocks and names
 
@@ -384,10 +384,6 @@ param_read (p ∷ params) (suc n) all = param_read params n all.1
 
 -- 2. The table
 
-abbrev pub SomeWords : Sent → ℕ → Type 0
-SomeWords (sends (FlagsLift id)) n = 0 < n
-SomeWords _ n = Unit {0}
-
 first : (a : Expr) (es : List Expr) → AreNamedExprs (a ∷ es) → is_named_expr a ≡ true
 first a es h = (and_parts (is_named_expr a) (list_all is_named_expr es) h).0
 
@@ -398,78 +394,78 @@ stores : (a at : Expr) (o : ArchitectureSize) (ty : WasmType) → AreNamedExprs 
 stores a at o ty h = (one_named (stmt.Store at o ty a) (store_named at o ty a (second a at [] h) (first a (at ∷ []) h)), refl)
 
 module _ (b : Context) (area : is_ident b.area ≡ true) (params : AllByRecursion (λ (p : ParamSite). IsNamedOperand p.operand) b.params) (sites : AreNamedSites b.sites) where
-  pub told_named : (step : Sent) (es : List Expr) → SomeWords step (length es) → AreNamedExprs es → NamedWhere (emitted b step es)
-  told_named (asks room) [] some h = λ t. one_value (codes "ptr") (pointer_to b.import b.area) [] refl (pointer_named b.import b.area area) t
-  told_named (sends (GetArg n)) [] some h = param_read b.params n params
-  told_named (sends (I32Const n)) [] some h = λ t. only_expr (expr.I32Const n) (is_named-i32 n)
-  told_named (sends (ConstZero types)) [] some h = λ t. (refl, zeros_named types.now)
-  told_named (sends (Bitcasts cs)) es some h = λ t. casts_named 0 cs.now es t h
-  told_named (sends I32FromU8) (a ∷ []) some h = λ t. only_expr (runtime_call AsI32 a) (calls_named AsI32 a (first a [] h))
-  told_named (sends I32FromS8) (a ∷ []) some h = λ t. only_expr (runtime_call AsI32 a) (calls_named AsI32 a (first a [] h))
-  told_named (sends I32FromU16) (a ∷ []) some h = λ t. only_expr (runtime_call AsI32 a) (calls_named AsI32 a (first a [] h))
-  told_named (sends I32FromS16) (a ∷ []) some h = λ t. only_expr (runtime_call AsI32 a) (calls_named AsI32 a (first a [] h))
-  told_named (sends I32FromU32) (a ∷ []) some h = λ t. only_expr (runtime_call AsI32 a) (calls_named AsI32 a (first a [] h))
-  told_named (sends I32FromS32) (a ∷ []) some h = λ t. only_expr (runtime_call AsI32 a) (calls_named AsI32 a (first a [] h))
-  told_named (sends I32FromChar) (a ∷ []) some h = λ t. only_expr (runtime_call AsI32 a) (calls_named AsI32 a (first a [] h))
-  told_named (sends I64FromU64) (a ∷ []) some h = λ t. only_expr (runtime_call AsI64 a) (calls_named AsI64 a (first a [] h))
-  told_named (sends I64FromS64) (a ∷ []) some h = λ t. only_expr (runtime_call AsI64 a) (calls_named AsI64 a (first a [] h))
-  told_named (sends CoreF32FromF32) (a ∷ []) some h = λ t. only_expr (runtime_call AsF32 a) (calls_named AsF32 a (first a [] h))
-  told_named (sends CoreF64FromF64) (a ∷ []) some h = λ t. only_expr (runtime_call AsF64 a) (calls_named AsF64 a (first a [] h))
-  told_named (sends S32FromI32) (a ∷ []) some h = λ t. (refl, h)
-  told_named (sends S64FromI64) (a ∷ []) some h = λ t. (refl, h)
-  told_named (sends F32FromCoreF32) (a ∷ []) some h = λ t. (refl, h)
-  told_named (sends F64FromCoreF64) (a ∷ []) some h = λ t. (refl, h)
-  told_named (sends S8FromI32) (a ∷ []) some h = λ t. only_expr (expr.Cast a cast.I8) (cast_named a cast.I8 (first a [] h))
-  told_named (sends U8FromI32) (a ∷ []) some h = λ t. only_expr (expr.Cast a cast.U8) (cast_named a cast.U8 (first a [] h))
-  told_named (sends S16FromI32) (a ∷ []) some h = λ t. only_expr (expr.Cast a cast.I16) (cast_named a cast.I16 (first a [] h))
-  told_named (sends U16FromI32) (a ∷ []) some h = λ t. only_expr (expr.Cast a cast.U16) (cast_named a cast.U16 (first a [] h))
-  told_named (sends U32FromI32) (a ∷ []) some h = λ t. only_expr (expr.Cast a cast.U32) (cast_named a cast.U32 (first a [] h))
-  told_named (sends U64FromI64) (a ∷ []) some h = λ t. only_expr (expr.Cast a cast.U64) (cast_named a cast.U64 (first a [] h))
-  told_named (sends CharFromI32) (a ∷ []) some h = λ t. one_value (codes "c") (runtime_call CharLift (expr.Cast a cast.U32)) (CharLift ∷ []) refl (calls_named CharLift (expr.Cast a cast.U32) (cast_named a _ (first a [] h))) t
-  told_named (sends I32FromBool) (a ∷ []) some h = λ t. one_value (codes "b") (expr.I32FromBool a) [] refl (is_named-bool a ∙ first a [] h) t
-  told_named (sends BoolFromI32) (a ∷ []) some h = λ t. one_value (codes "b") (runtime_call BoolLift (expr.Cast a cast.U8)) (BoolLift ∷ []) refl (calls_named BoolLift (expr.Cast a cast.U8) (cast_named a _ (first a [] h))) t
-  told_named (sends (RecordLower id)) (a ∷ []) some h = where_each (record_at b.sites id.0) (splits_record a) (λ s is t. splits_named a s t (record_named b.sites id.0 s sites is) (first a [] h))
-  told_named (sends (RecordLift id)) es some h = where_each (record_at b.sites id.0) (makes_record es) (λ s is t. makes_named es s t (record_named b.sites id.0 s sites is) h)
-  told_named (sends (EnumLower id)) (a ∷ []) some h = λ t. only_expr (expr.EnumNumber a) (is_named-number a ∙ first a [] h)
-  told_named (sends (EnumLift id)) (a ∷ []) some h = enums_lifted b.sites id.0 a sites (first a [] h)
-  told_named (sends (FlagsLower id)) (a ∷ []) some h =
+  pub told_named : (step : Sent) (es : List Expr) → AreNamedExprs es → NamedWhere (emitted b step es)
+  told_named (asks room) [] h = λ t. one_value (codes "ptr") (pointer_to b.import b.area) [] refl (pointer_named b.import b.area area) t
+  told_named (sends (GetArg n)) [] h = param_read b.params n params
+  told_named (sends (I32Const n)) [] h = λ t. only_expr (expr.I32Const n) (is_named-i32 n)
+  told_named (sends (ConstZero types)) [] h = λ t. (refl, zeros_named types.now)
+  told_named (sends (Bitcasts cs)) es h = λ t. casts_named 0 cs.now es t h
+  told_named (sends I32FromU8) (a ∷ []) h = λ t. only_expr (runtime_call AsI32 a) (calls_named AsI32 a (first a [] h))
+  told_named (sends I32FromS8) (a ∷ []) h = λ t. only_expr (runtime_call AsI32 a) (calls_named AsI32 a (first a [] h))
+  told_named (sends I32FromU16) (a ∷ []) h = λ t. only_expr (runtime_call AsI32 a) (calls_named AsI32 a (first a [] h))
+  told_named (sends I32FromS16) (a ∷ []) h = λ t. only_expr (runtime_call AsI32 a) (calls_named AsI32 a (first a [] h))
+  told_named (sends I32FromU32) (a ∷ []) h = λ t. only_expr (runtime_call AsI32 a) (calls_named AsI32 a (first a [] h))
+  told_named (sends I32FromS32) (a ∷ []) h = λ t. only_expr (runtime_call AsI32 a) (calls_named AsI32 a (first a [] h))
+  told_named (sends I32FromChar) (a ∷ []) h = λ t. only_expr (runtime_call AsI32 a) (calls_named AsI32 a (first a [] h))
+  told_named (sends I64FromU64) (a ∷ []) h = λ t. only_expr (runtime_call AsI64 a) (calls_named AsI64 a (first a [] h))
+  told_named (sends I64FromS64) (a ∷ []) h = λ t. only_expr (runtime_call AsI64 a) (calls_named AsI64 a (first a [] h))
+  told_named (sends CoreF32FromF32) (a ∷ []) h = λ t. only_expr (runtime_call AsF32 a) (calls_named AsF32 a (first a [] h))
+  told_named (sends CoreF64FromF64) (a ∷ []) h = λ t. only_expr (runtime_call AsF64 a) (calls_named AsF64 a (first a [] h))
+  told_named (sends S32FromI32) (a ∷ []) h = λ t. (refl, h)
+  told_named (sends S64FromI64) (a ∷ []) h = λ t. (refl, h)
+  told_named (sends F32FromCoreF32) (a ∷ []) h = λ t. (refl, h)
+  told_named (sends F64FromCoreF64) (a ∷ []) h = λ t. (refl, h)
+  told_named (sends S8FromI32) (a ∷ []) h = λ t. only_expr (expr.Cast a cast.I8) (cast_named a cast.I8 (first a [] h))
+  told_named (sends U8FromI32) (a ∷ []) h = λ t. only_expr (expr.Cast a cast.U8) (cast_named a cast.U8 (first a [] h))
+  told_named (sends S16FromI32) (a ∷ []) h = λ t. only_expr (expr.Cast a cast.I16) (cast_named a cast.I16 (first a [] h))
+  told_named (sends U16FromI32) (a ∷ []) h = λ t. only_expr (expr.Cast a cast.U16) (cast_named a cast.U16 (first a [] h))
+  told_named (sends U32FromI32) (a ∷ []) h = λ t. only_expr (expr.Cast a cast.U32) (cast_named a cast.U32 (first a [] h))
+  told_named (sends U64FromI64) (a ∷ []) h = λ t. only_expr (expr.Cast a cast.U64) (cast_named a cast.U64 (first a [] h))
+  told_named (sends CharFromI32) (a ∷ []) h = λ t. one_value (codes "c") (runtime_call CharLift (expr.Cast a cast.U32)) (CharLift ∷ []) refl (calls_named CharLift (expr.Cast a cast.U32) (cast_named a _ (first a [] h))) t
+  told_named (sends I32FromBool) (a ∷ []) h = λ t. one_value (codes "b") (expr.I32FromBool a) [] refl (is_named-bool a ∙ first a [] h) t
+  told_named (sends BoolFromI32) (a ∷ []) h = λ t. one_value (codes "b") (runtime_call BoolLift (expr.Cast a cast.U8)) (BoolLift ∷ []) refl (calls_named BoolLift (expr.Cast a cast.U8) (cast_named a _ (first a [] h))) t
+  told_named (sends (RecordLower id)) (a ∷ []) h = where_each (record_at b.sites id.0) (splits_record a) (λ s is t. splits_named a s t (record_named b.sites id.0 s sites is) (first a [] h))
+  told_named (sends (RecordLift id)) es h = where_each (record_at b.sites id.0) (makes_record es) (λ s is t. makes_named es s t (record_named b.sites id.0 s sites is) h)
+  told_named (sends (EnumLower id)) (a ∷ []) h = λ t. only_expr (expr.EnumNumber a) (is_named-number a ∙ first a [] h)
+  told_named (sends (EnumLift id)) (a ∷ []) h = enums_lifted b.sites id.0 a sites (first a [] h)
+  told_named (sends (FlagsLower id)) (a ∷ []) h =
       where_each (flags_at b.sites id.0) (lowers_flags a)
       (λ s is t. let ident = local_ident (codes "flags") t refl in (one_named (stmt.Let (with_number (codes "flags") t) a) (let_named (with_number (codes "flags") t) a ident (first a [] h)), bits_named (with_number (codes "flags") t) 0 _ ident))
-  told_named (sends (FlagsLift id)) es some h = where_each (flags_at b.sites id.0) (lifts_flags es) (λ s is t. one_value (codes "flags") (flags_made s es) [] refl (flags_lifted es s (flags_named b.sites id.0 s sites is) some h) t)
-  told_named (sends (TupleLower n)) (a ∷ []) some h =
+  told_named (sends (FlagsLift id)) (w ∷ es) h = where_each (flags_at b.sites id.0) (lifts_flags (w ∷ es)) (λ s is t. one_value (codes "flags") (flags_made s (w ∷ es)) [] refl (flags_lifted w es s (flags_named b.sites id.0 s sites is) h) t)
+  told_named (sends (TupleLower n)) (a ∷ []) h =
       λ t. let idents = parts_idents part_prefix t 0 n part_form in (one_named (stmt.LetParts (pattern.Tuple (names_from part_prefix t 0 n)) a) (parts_named (pattern.Tuple (names_from part_prefix t 0 n)) a idents (first a [] h)), locals_named (names_from part_prefix t 0 n) idents)
-  told_named (sends (TupleLift n)) es some h = λ t. one_value (codes "tuple") (expr.Tuple es) [] refl (is_named-tuple es ∙ h) t
-  told_named (sends (StringLower false)) (a ∷ []) some h = λ t. (buffer_named t a (first a [] h), buffer_results t)
-  told_named (sends (StringLower true)) (a ∷ []) some h = where_each (local_of a) hands_text (λ name is t. hands_named name t (name_known a name is (first a [] h)))
-  told_named (sends StringLift) (a ∷ n ∷ []) some h =
+  told_named (sends (TupleLift n)) es h = λ t. one_value (codes "tuple") (expr.Tuple es) [] refl (is_named-tuple es ∙ h) t
+  told_named (sends (StringLower false)) (a ∷ []) h = λ t. (buffer_named t a (first a [] h), buffer_results t)
+  told_named (sends (StringLower true)) (a ∷ []) h = λ t. gives_named a (local_of a) refl (first a [] h) t
+  told_named (sends StringLift) (a ∷ n ∷ []) h =
       λ t. (takes_named t a n (first a (n ∷ []) h) (second a n [] h), alone_named (expr.Local (with_number (codes "text") t)) (local_named (with_number (codes "text") t) (local_ident (codes "text") t refl)))
-  told_named (sends (Flush n)) es some h = λ t. let idents = parts_idents flush_prefix t 0 n flush_form in (lets_named (names_from flush_prefix t 0 n) es idents h, locals_named (names_from flush_prefix t 0 n) idents)
-  told_named (sends (Return n)) es some h = λ t. (refl, refl)
-  told_named (sends (I32Load8U o)) (a ∷ []) some h = λ t. one_value (codes "l") (expr.LoadSmall a o small.U8) [] refl (is_named-load_small a _ _ ∙ first a [] h) t
-  told_named (sends (I32Load8S o)) (a ∷ []) some h = λ t. one_value (codes "l") (expr.LoadSmall a o small.I8) [] refl (is_named-load_small a _ _ ∙ first a [] h) t
-  told_named (sends (I32Load16U o)) (a ∷ []) some h = λ t. one_value (codes "l") (expr.LoadSmall a o small.U16) [] refl (is_named-load_small a _ _ ∙ first a [] h) t
-  told_named (sends (I32Load16S o)) (a ∷ []) some h = λ t. one_value (codes "l") (expr.LoadSmall a o small.I16) [] refl (is_named-load_small a _ _ ∙ first a [] h) t
-  told_named (sends (I32Load o)) (a ∷ []) some h = λ t. one_value (codes "l") (expr.Load a o wasm.I32) [] refl (load_named a o wasm.I32 (first a [] h)) t
-  told_named (sends (I64Load o)) (a ∷ []) some h = λ t. one_value (codes "l") (expr.Load a o wasm.I64) [] refl (load_named a o wasm.I64 (first a [] h)) t
-  told_named (sends (F32Load o)) (a ∷ []) some h = λ t. one_value (codes "l") (expr.Load a o wasm.F32) [] refl (load_named a o wasm.F32 (first a [] h)) t
-  told_named (sends (F64Load o)) (a ∷ []) some h = λ t. one_value (codes "l") (expr.Load a o wasm.F64) [] refl (load_named a o wasm.F64 (first a [] h)) t
-  told_named (sends (PointerLoad o)) (a ∷ []) some h = λ t. one_value (codes "l") (expr.Load a o wasm.Pointer) [] refl (load_named a o wasm.Pointer (first a [] h)) t
-  told_named (sends (LengthLoad o)) (a ∷ []) some h = λ t. one_value (codes "l") (expr.Load a o wasm.Length) [] refl (load_named a o wasm.Length (first a [] h)) t
-  told_named (sends (I32Store8 o)) (a ∷ at ∷ []) some h = λ t. (one_named (stmt.StoreSmall at o small.U8 a) (small_named at o small.U8 a (second a at [] h) (first a (at ∷ []) h)), refl)
-  told_named (sends (I32Store16 o)) (a ∷ at ∷ []) some h = λ t. (one_named (stmt.StoreSmall at o small.U16 a) (small_named at o small.U16 a (second a at [] h) (first a (at ∷ []) h)), refl)
-  told_named (sends (I32Store o)) (a ∷ at ∷ []) some h = λ t. stores a at o wasm.I32 h
-  told_named (sends (I64Store o)) (a ∷ at ∷ []) some h = λ t. stores a at o wasm.I64 h
-  told_named (sends (F32Store o)) (a ∷ at ∷ []) some h = λ t. stores a at o wasm.F32 h
-  told_named (sends (F64Store o)) (a ∷ at ∷ []) some h = λ t. stores a at o wasm.F64 h
-  told_named (sends (PointerStore o)) (a ∷ at ∷ []) some h = λ t. stores a at o wasm.Pointer h
-  told_named (sends (LengthStore o)) (a ∷ at ∷ []) some h = λ t. stores a at o wasm.Length h
-  told_named (sends (GuestDeallocate size align)) (a ∷ []) some h =
+  told_named (sends (Flush n)) es h = λ t. let idents = parts_idents flush_prefix t 0 n flush_form in (lets_named (names_from flush_prefix t 0 n) es idents h, locals_named (names_from flush_prefix t 0 n) idents)
+  told_named (sends (Return n)) es h = λ t. (refl, refl)
+  told_named (sends (I32Load8U o)) (a ∷ []) h = λ t. one_value (codes "l") (expr.LoadSmall a o small.U8) [] refl (is_named-load_small a _ _ ∙ first a [] h) t
+  told_named (sends (I32Load8S o)) (a ∷ []) h = λ t. one_value (codes "l") (expr.LoadSmall a o small.I8) [] refl (is_named-load_small a _ _ ∙ first a [] h) t
+  told_named (sends (I32Load16U o)) (a ∷ []) h = λ t. one_value (codes "l") (expr.LoadSmall a o small.U16) [] refl (is_named-load_small a _ _ ∙ first a [] h) t
+  told_named (sends (I32Load16S o)) (a ∷ []) h = λ t. one_value (codes "l") (expr.LoadSmall a o small.I16) [] refl (is_named-load_small a _ _ ∙ first a [] h) t
+  told_named (sends (I32Load o)) (a ∷ []) h = λ t. one_value (codes "l") (expr.Load a o wasm.I32) [] refl (load_named a o wasm.I32 (first a [] h)) t
+  told_named (sends (I64Load o)) (a ∷ []) h = λ t. one_value (codes "l") (expr.Load a o wasm.I64) [] refl (load_named a o wasm.I64 (first a [] h)) t
+  told_named (sends (F32Load o)) (a ∷ []) h = λ t. one_value (codes "l") (expr.Load a o wasm.F32) [] refl (load_named a o wasm.F32 (first a [] h)) t
+  told_named (sends (F64Load o)) (a ∷ []) h = λ t. one_value (codes "l") (expr.Load a o wasm.F64) [] refl (load_named a o wasm.F64 (first a [] h)) t
+  told_named (sends (PointerLoad o)) (a ∷ []) h = λ t. one_value (codes "l") (expr.Load a o wasm.Pointer) [] refl (load_named a o wasm.Pointer (first a [] h)) t
+  told_named (sends (LengthLoad o)) (a ∷ []) h = λ t. one_value (codes "l") (expr.Load a o wasm.Length) [] refl (load_named a o wasm.Length (first a [] h)) t
+  told_named (sends (I32Store8 o)) (a ∷ at ∷ []) h = λ t. (one_named (stmt.StoreSmall at o small.U8 a) (small_named at o small.U8 a (second a at [] h) (first a (at ∷ []) h)), refl)
+  told_named (sends (I32Store16 o)) (a ∷ at ∷ []) h = λ t. (one_named (stmt.StoreSmall at o small.U16 a) (small_named at o small.U16 a (second a at [] h) (first a (at ∷ []) h)), refl)
+  told_named (sends (I32Store o)) (a ∷ at ∷ []) h = λ t. stores a at o wasm.I32 h
+  told_named (sends (I64Store o)) (a ∷ at ∷ []) h = λ t. stores a at o wasm.I64 h
+  told_named (sends (F32Store o)) (a ∷ at ∷ []) h = λ t. stores a at o wasm.F32 h
+  told_named (sends (F64Store o)) (a ∷ at ∷ []) h = λ t. stores a at o wasm.F64 h
+  told_named (sends (PointerStore o)) (a ∷ at ∷ []) h = λ t. stores a at o wasm.Pointer h
+  told_named (sends (LengthStore o)) (a ∷ at ∷ []) h = λ t. stores a at o wasm.Length h
+  told_named (sends (GuestDeallocate size align)) (a ∷ []) h =
       λ t. (one_named (stmt.Expr (block_freed a size align)) (expr_named (block_freed a size align) (runtime_calls_named CabiDealloc (a ∷ expr.Size size ∷ expr.Size (align_size align) ∷ []) (freed_named a (expr.Size size) (align_size align) (first a [] h) (is_named-size size)))), refl)
-  told_named (sends GuestDeallocateString) (a ∷ n ∷ []) some h =
+  told_named (sends GuestDeallocateString) (a ∷ n ∷ []) h =
       λ t. (one_named (stmt.Expr (text_freed a n)) (expr_named (text_freed a n) (runtime_calls_named CabiDealloc (a ∷ n ∷ expr.Size (record { bytes = 1; pointers = 0 }) ∷ []) (freed_named a n (record { bytes = 1; pointers = 0 }) (first a (n ∷ []) h) (second a n [] h)))), refl)
-  told_named (sends VariantPayloadName) [] some h = slot_read the_payload (innermost b.opened)
-  told_named (sends IterElem) [] some h = slot_read the_element (innermost b.opened)
-  told_named (sends IterMapKey) [] some h = slot_read the_key (innermost b.opened)
-  told_named (sends IterMapValue) [] some h = slot_read the_value (innermost b.opened)
-  told_named (sends IterBasePointer) [] some h = slot_read the_base (innermost b.opened)
-  told_named _ es some h = tt
+  told_named (sends VariantPayloadName) [] h = slot_read the_payload (innermost b.opened)
+  told_named (sends IterElem) [] h = slot_read the_element (innermost b.opened)
+  told_named (sends IterMapKey) [] h = slot_read the_key (innermost b.opened)
+  told_named (sends IterMapValue) [] h = slot_read the_value (innermost b.opened)
+  told_named (sends IterBasePointer) [] h = slot_read the_base (innermost b.opened)
+  told_named _ es h = tt

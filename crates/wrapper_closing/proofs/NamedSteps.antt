@@ -3,7 +3,6 @@ use Rattle.std.proofs.Common.{◌≡◌, ℕ, zero, suc, true, ◌&&◌, List, [
 use Rattle.std.specs.Prelude.{codes, option_and_then, option_to_list}
 use Rattle.std.specs.List.{AllByRecursion, list_all}
 use Rattle.std.proofs.lemmas.Bool.{and_parts}
-use Rattle.std.proofs.lemmas.List.{length-map}
 use Rattle.wit_model.specs.Bytes.{Bytes}
 use Rattle.wit_model.specs.declared.function.Function.{Function}
 use Rattle.wit_model.specs.declared.types.Case.{Case}
@@ -52,8 +51,9 @@ use Rattle.func_gen.specs.TypeSites.{site_at}
 use Rattle.func_gen.specs.Uses.{Uses}
 use Rattle.func_gen.proofs.BlocksThere.{all_back}
 use Rattle.func_gen.proofs.KeptNames.{all_others, all_used}
-use Rattle.wrapper_closing.specs.Named.{IsNamed, IsNamedBlock, IsNamedCode, IsNamedOperand, KeepsNames, is_named_site}
-use Rattle.wrapper_closing.proofs.NamedEmissions.{AreNamedSites, NamedWhere, SomeWords, root_known, site_named, told_named}
+use Rattle.wrapper_closing.specs.Named.{AreNamedSites, IsNamedOperand, is_named_site}
+use Rattle.wrapper_closing.proofs.NamedBindgens.{IsNamed, IsNamedBlock, IsNamedCode, KeepsNames}
+use Rattle.wrapper_closing.proofs.NamedEmissions.{NamedWhere, root_known, site_named, told_named}
 use Rattle.wrapper_closing.proofs.NamedStmts.{AreNamed, IsNamedForm, alone_named, call_named, expr_named, frees_named, import_named, last_named, let_named, lifts_named, longer_path, lowers_named, more_named, one_named, own_path, payload_ident, then_named, two_true}
 use Rattle.wrapper_closing.proofs.NumberedIdents.{local_ident, parts_idents}
 use Rattle.wrapper_closing.proofs.StepsKeep.{AreResults, CodeFits, StepFits, code_keeps}
@@ -155,10 +155,9 @@ module _ (old new : FunctionBindgen) (still : StillOf old new) (h : IsNamed old)
     apart rs (ap (list_all is_named_expr) w.results ∙ (each w.number).1),
   )
 
-  told : (step : Sent) (os rs : List ExprOperand) → SomeWords step (length os) → AreOperands os → BecomesTold step os rs old new → IsNamed new × AreOperands rs
-  told step os rs some all t =
-      let many = length-map os (λ (o : ExprOperand). o.expr) in
-      let each = subst NamedWhere t.is (told_named (context old) h.area h.params h.sites step (exprs_of os) (subst (SomeWords step) (sym many) some) (together os all)) in
+  told : (step : Sent) (os rs : List ExprOperand) → AreOperands os → BecomesTold step os rs old new → IsNamed new × AreOperands rs
+  told step os rs all t =
+      let each = subst NamedWhere t.is (told_named (context old) h.area h.params h.sites step (exprs_of os) (together os all)) in
       writes t.code rs each t.writes
 
   called_core : (f : Function) (params : List WasmType) (answer : Option WasmType) (es : List Expr) → is_quotable f.name.wit ≡ true → list_all is_named_expr es ≡ true
@@ -272,7 +271,7 @@ module _ (types : List TypeDef) where
   step_named (sends (GuestDeallocateVariant n)) os rs old new fit all f h = let c = f.code in results_as new rs [] c.results (frees old new f.still h c.first c.operand (only_named old new f.still h os c.operand c.only all) c.frees, tt)
   step_named opens os rs old new fit all f h = (begins old new f.still h f.code, tt)
   step_named closes os rs old new fit all f h = (ends old new f.still h os all f.code, tt)
-  step_named step os rs old new fit all f h = told old new f.still h step os rs fit all f.code
+  step_named step os rs old new fit all f h = told old new f.still h step os rs all f.code
 
   -- code does so that calls such functions
   pub code_named : (code : Flow) (reads gives : List ExprOperand) (old new : FunctionBindgen) → CodeFits types KeepsNames (length reads) code → Flows func_meaning types code reads gives old new → AreOperands reads → IsNamed old → IsNamed new × AreOperands gives

@@ -8,6 +8,7 @@ use Rattle.std.proofs.lemmas.List.Folds.{list_all-append}
 use Rattle.wit_model.specs.Bytes.{Bytes}
 use Rattle.wit_model.specs.declared.size.ArchitectureSize.{ArchitectureSize}
 use Rattle.wit_model.specs.declared.wasm_type.WasmType.{WasmType}
+use Rattle.rust_tree.specs.declared.area.ReturnArea.{ReturnArea}
 use Rattle.rust_tree.specs.declared.expr.Expr.{Expr, Expr-F, fold-roll-Expr}
 use Rattle.rust_tree.specs.declared.expr.Expr.TheVariants as expr
 use Rattle.rust_tree.specs.declared.expr.Expr.TheVariants.{rolls-Record}
@@ -26,7 +27,7 @@ use Rattle.rust_tree.specs.declared.stmt.MatchNames.{MatchNames}
 use Rattle.rust_tree.specs.declared.stmt.MatchNames.TheVariants as names_of
 use Rattle.rust_tree.specs.declared.stmt.Stmt.{Stmt, Stmt-F, fold-roll-Stmt}
 use Rattle.rust_tree.specs.declared.stmt.Stmt.TheVariants as stmt
-use Rattle.rust_tree.specs.declared.stmt.Stmt.TheVariants.{rolls-AssertLast, rolls-Expr, rolls-Import, rolls-Let, rolls-LetParts, rolls-LetSlot, rolls-Store, rolls-StoreSmall, rolls-WriteSlot}
+use Rattle.rust_tree.specs.declared.stmt.Stmt.TheVariants.{rolls-Area, rolls-AssertLast, rolls-Expr, rolls-Import, rolls-Let, rolls-LetParts, rolls-LetSlot, rolls-Store, rolls-StoreSmall, rolls-WriteSlot}
 use Rattle.rust_tree.specs.Ident.{escaped_words, is_ident}
 use Rattle.rust_tree.specs.Runtime.{item_name}
 use Rattle.rust_tree.specs.WellNamed.{are_fields, are_match_names, are_path_names, has_two, is_absent_or, is_case_path, is_named_arm, is_named_arm_pattern, is_named_block, is_named_expr, is_named_import, is_named_pattern, is_named_stmt, named_arm_step, named_block_step, named_step, named_stmt_step}
@@ -41,7 +42,7 @@ use Rattle.func_gen.specs.LiftedCases.{case_expr, freed_body, invalid_body, is_u
 use Rattle.func_gen.specs.MatchForms.{arm_of, case_path, case_pattern, lowered_arm, lowered_arms, lowered_body, match_names, match_of, open_arm, tail_of}
 use Rattle.func_gen.specs.PartForms.{exprs_of}
 use Rattle.func_gen.specs.Slot.{slot_name}
-use Rattle.wrapper_closing.specs.Named.{IsNamedBlock}
+use Rattle.wrapper_closing.proofs.NamedBindgens.{IsNamedBlock}
 use Rattle.wrapper_closing.proofs.NumberedIdents.{local_ident}
 
 abbrev pub AreNamed : List Stmt → Type 0
@@ -69,6 +70,9 @@ expr_named e h = ap is_named_stmt (sym (rolls-Expr e)) ∙ fold-roll-Stmt Bool B
 
 pub import_named : (d : ImportDecl) → is_named_import d ≡ true → is_named_stmt (stmt.Import d) ≡ true
 import_named d h = ap is_named_stmt (sym (rolls-Import d)) ∙ fold-roll-Stmt Bool Bool Bool named_stmt_step named_arm_step named_block_step (Stmt-F.Import d) ∙ h
+
+pub area_named : (a : ReturnArea) → is_ident a.name ≡ true → is_named_stmt (stmt.Area a) ≡ true
+area_named a h = ap is_named_stmt (sym (rolls-Area a)) ∙ fold-roll-Stmt Bool Bool Bool named_stmt_step named_arm_step named_block_step (Stmt-F.Area a) ∙ h
 
 pub store_named : (address : Expr) (o : ArchitectureSize) (ty : WasmType) (e : Expr) → is_named_expr address ≡ true → is_named_expr e ≡ true → is_named_stmt (stmt.Store address o ty e) ≡ true
 store_named address o ty e h g =
@@ -134,8 +138,8 @@ longer_path first name h g = two_true (starts_path first) (is_ident name && true
 
 -- 3. Arms and matches
 
-code_named : (stmts : List Stmt) (tail : Option Expr) → AreNamed stmts → is_absent_or is_named_expr tail ≡ true → is_named_block (code_of stmts tail) ≡ true
-code_named stmts tail h g =
+pub block_named : (stmts : List Stmt) (tail : Option Expr) → AreNamed stmts → is_absent_or is_named_expr tail ≡ true → is_named_block (code_of stmts tail) ≡ true
+block_named stmts tail h g =
     is_named-block (code_of stmts tail) ∙ ap (λ (l : Block-F Stmt Arm Block). list_all is_named_stmt l.stmts && is_absent_or is_named_expr l.tail) (code-opened stmts tail)
     ∙ two_true (list_all is_named_stmt stmts) (is_absent_or is_named_expr tail) h g
 
@@ -168,7 +172,7 @@ lowered_named [] blocks h all = refl
 lowered_named (c ∷ cases) [] h all = refl
 lowered_named (c ∷ cases) (b ∷ blocks) h all =
     two_true (is_named_arm (lowered_arm c b)) (list_all is_named_arm (lowered_arms cases blocks))
-    (arm_named (case_pattern c b.number) (lowered_body b) (h.0.pattern b.number) (code_named b.stmts (tail_of (exprs_of b.results)) all.0.stmts (tail_named (exprs_of b.results) all.0.results)))
+    (arm_named (case_pattern c b.number) (lowered_body b) (h.0.pattern b.number) (block_named b.stmts (tail_of (exprs_of b.results)) all.0.stmts (tail_named (exprs_of b.results) all.0.results)))
     (lowered_named cases blocks h.1 all.1)
 
 match_names_named : (names : List Bytes) → list_all is_ident names ≡ true → are_match_names (match_names names) ≡ true
@@ -187,7 +191,7 @@ case_named unit path (e ∷ es) h g =
     call_named path (e ∷ []) (and_parts (are_path_names path.names) (has_two path.names) h).0 (alone_named e (and_parts (is_named_expr e) (list_all is_named_expr es) g).0)
 
 body_named : (c : _) (b : FinishedBlock) → IsNamedForm (case_pattern c) (case_path c) → IsNamedBlock b → is_named_block (lifted_body c b) ≡ true
-body_named c b h all = code_named b.stmts (Some (case_expr (is_unit c) (case_path c) (exprs_of b.results))) all.stmts (case_named (is_unit c) (case_path c) (exprs_of b.results) h.case all.results)
+body_named c b h all = block_named b.stmts (Some (case_expr (is_unit c) (case_path c) (exprs_of b.results))) all.stmts (case_named (is_unit c) (case_path c) (exprs_of b.results) h.case all.results)
 
 bodies_named : (cases : _) (blocks : List FinishedBlock) → AllByRecursion (λ c. IsNamedForm (case_pattern c) (case_path c)) cases → AllBlocks blocks → list_all is_named_block (lifted_bodies cases blocks) ≡ true
 bodies_named [] blocks h all = refl
@@ -197,7 +201,7 @@ bodies_named (c ∷ cases) (b ∷ blocks) h all =
 
 freed_named : (blocks : List FinishedBlock) → AllBlocks blocks → list_all is_named_block (map freed_body blocks) ≡ true
 freed_named [] all = refl
-freed_named (b ∷ blocks) all = two_true (is_named_block (freed_body b)) (list_all is_named_block (map freed_body blocks)) (code_named b.stmts None all.0.stmts refl) (freed_named blocks all.1)
+freed_named (b ∷ blocks) all = two_true (is_named_block (freed_body b)) (list_all is_named_block (map freed_body blocks)) (block_named b.stmts None all.0.stmts refl) (freed_named blocks all.1)
 
 numbers_named : (k : ℕ) (bodies : List Block) → list_all is_named_block bodies ≡ true → list_all is_named_arm (numbered_arms k bodies) ≡ true
 numbers_named k [] h = refl
@@ -216,14 +220,14 @@ pub lifts_named : (v : Bytes) (e : Expr) (cases : _) (blocks : List FinishedBloc
     → AreNamed (stmt.Match (names_of.One v) e (number_arms 0 (lifted_bodies cases blocks) (arm_of arm.AnyOther invalid_body)) ∷ [])
 lifts_named v e cases blocks n h forms all =
     by_number_named (names_of.One v) e (lifted_bodies cases blocks) arm.AnyOther invalid_body n h (bodies_named cases blocks forms all) refl
-    (code_named [] (Some (expr.Call (runtime_path InvalidEnumDiscriminant) [])) refl (runtime_calls_named InvalidEnumDiscriminant [] refl))
+    (block_named [] (Some (expr.Call (runtime_path InvalidEnumDiscriminant) [])) refl (runtime_calls_named InvalidEnumDiscriminant [] refl))
 
 pub last_named : (n v : Bytes) (e : Expr) (cases : _) (c : _) (first : List FinishedBlock) (last : FinishedBlock) (k : ℕ) → is_ident n ≡ true → is_ident v ≡ true → is_named_expr e ≡ true → AllByRecursion (λ c. IsNamedForm (case_pattern c) (case_path c)) cases → IsNamedForm (case_pattern c) (case_path c)
     → AllBlocks first → IsNamedBlock last → AreNamed (stmt.Match (names_of.One v) e (number_arms 0 (lifted_bodies cases first) (arm_of (arm.Name n) (last_body n k c last))) ∷ [])
 last_named n v e cases c first last k i j h forms form all own =
     by_number_named (names_of.One v) e (lifted_bodies cases first) (arm.Name n) (last_body n k c last) j h (bodies_named cases first forms all) i
-    (code_named (stmt.AssertLast n k ∷ last.stmts) (Some (case_expr (is_unit c) (case_path c) (exprs_of last.results))) (then_named (stmt.AssertLast n k) last.stmts (assert_named n k i) own.stmts)
+    (block_named (stmt.AssertLast n k ∷ last.stmts) (Some (case_expr (is_unit c) (case_path c) (exprs_of last.results))) (then_named (stmt.AssertLast n k) last.stmts (assert_named n k i) own.stmts)
     (case_named (is_unit c) (case_path c) (exprs_of last.results) form.case own.results))
 
 pub frees_named : (e : Expr) (first : List FinishedBlock) (last : FinishedBlock) → is_named_expr e ≡ true → AllBlocks first → IsNamedBlock last → AreNamed (stmt.Match names_of.Nothing e (number_arms 0 (map freed_body first) (arm_of arm.AnyOther (freed_body last))) ∷ [])
-frees_named e first last h all own = by_number_named names_of.Nothing e (map freed_body first) arm.AnyOther (freed_body last) refl h (freed_named first all) refl (code_named last.stmts None own.stmts refl)
+frees_named e first last h all own = by_number_named names_of.Nothing e (map freed_body first) arm.AnyOther (freed_body last) refl h (freed_named first all) refl (block_named last.stmts None own.stmts refl)

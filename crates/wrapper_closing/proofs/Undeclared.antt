@@ -262,7 +262,7 @@ module _ (what : Declaration) where
   told_bare b (sends (EnumLower id)) (a ∷ []) = λ t. no_stmts
   told_bare b (sends (EnumLift id)) (a ∷ []) = enums_bare a (enum_at b.sites id.0)
   told_bare b (sends (FlagsLower id)) (a ∷ []) = for_each (flags_at b.sites id.0) (lowers_flags a) (λ s t. let_one _ _)
-  told_bare b (sends (FlagsLift id)) es = for_each (flags_at b.sites id.0) (lifts_flags es) (λ s t. let_one _ _)
+  told_bare b (sends (FlagsLift id)) (w ∷ es) = for_each (flags_at b.sites id.0) (lifts_flags (w ∷ es)) (λ s t. let_one _ _)
   told_bare b (sends (TupleLower n)) (a ∷ []) = λ t. parts_one _ _
   told_bare b (sends (TupleLift n)) es = λ t. let_one _ _
   told_bare b (sends (StringLower false)) (a ∷ []) = λ t. three_lets _ _ _ _ _ _

@@ -10,6 +10,7 @@ pub mod FileArea
 pub mod ImportBlock
 pub mod ImportBody
 pub mod Laws
+pub mod NameLaws
 pub mod Named
 pub mod OneBody
 pub mod ParamLaws

@@ -7,6 +7,7 @@ mod body_laws;
 mod exports;
 mod imports;
 mod laws;
+mod name_laws;
 mod param_laws;
 mod params;
 mod parts;
@@ -21,6 +22,7 @@ pub use imports::import_body;
 pub use laws::{
     export_body_law, export_law, import_body_law, import_law, post_return_body_law, post_return_law,
 };
+pub use name_laws::named_body_law;
 pub use param_laws::param_law;
 pub use params::{core_params, core_result, post_return_params};
 pub use parts::BodyParts;

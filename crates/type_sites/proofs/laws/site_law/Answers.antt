@@ -1,4 +1,5 @@
 use Rattle.type_sites.proofs.SitesDefined.{sites-are-defined, sites-can-be-defined}
+use Rattle.type_sites.proofs.SitesNamed.{sites-are-named}
 use Rattle.type_sites.proofs.SitesWritten.{sites-can-be-written}
 use Rattle.type_sites.proofs.laws.site_law.Goals as goal
 
@@ -10,3 +11,6 @@ returns-clause-can_be c = sites-can-be-defined
 
 pub returns-clause-written : goal.returns-clause-written
 returns-clause-written c = sites-can-be-written
+
+pub returns-clause-named : goal.returns-clause-named
+returns-clause-named c = sites-are-named
