@@ -1,5 +1,6 @@
 -- What is sent for core words, by the kind of a type.
-use Rattle.std.proofs.Common.{◌≡◌, ℕ, Bool, List, [], ◌∷◌, length, map, Option, Some, option_map, true, refl, ap, ◌∙◌}
+use Rattle.std.proofs.Common.{◌≡◌, ℕ, Bool, List, [], ◌∷◌, length, map, Option, Some, option_map, false, true, refl, ap, ◌∙◌}
+use Rattle.std.proofs.lemmas.Bool.{cond-false, cond-true}
 use Rattle.std.specs.Prelude.{zip}
 use Rattle.std.specs.List.{slice_get}
 use Rattle.wit_model.specs.TypeOrder.{GoesDown}
@@ -11,9 +12,11 @@ use Rattle.wit_model.specs.declared.types.TypeDefKind.{TypeDefKind}
 use Rattle.wit_model.specs.declared.types.TypeDefKind.TheVariants as kind
 use Rattle.wit_model.specs.declared.types.WitType.{WitType}
 use Rattle.wit_model.specs.declared.types.WitType.TheVariants as wit
+use Rattle.wrapper_meaning.specs.Kinds.{has_list}
+use Rattle.wrapper_meaning.specs.Shape.{shape_at}
 use Rattle.abi_bindgen.specs.declared.instruction.Instruction.{Instruction}
-use Rattle.abi_bindgen.specs.declared.instruction.Instruction.TheVariants.{EnumLift, EnumLower, FlagsLift, FlagsLower, GuestDeallocateString, OptionLift, OptionLower, RecordLift, RecordLower, ResultLift, ResultLower, StringLift, StringLower, TupleLift, TupleLower, VariantLift, VariantLower}
-use Rattle.abi_bindgen.specs.Code.{blocks_of_cases, by_case, case_words, in_blocks, lift_case, lift_cases, lower_case, lower_cases, members_of, payloads_there, shared_slots, free_words_code, free_words_kind, free_words_leaf, lift_code, lift_kind, lift_leaf, lower_code, lower_kind, lower_leaf, of_words}
+use Rattle.abi_bindgen.specs.declared.instruction.Instruction.TheVariants.{EnumLift, EnumLower, FlagsLift, FlagsLower, GuestDeallocateString, GuestDeallocateVariant, OptionLift, OptionLower, RecordLift, RecordLower, ResultLift, ResultLower, StringLift, StringLower, TupleLift, TupleLower, VariantLift, VariantLower}
+use Rattle.abi_bindgen.specs.Code.{blocks_of_cases, by_case, case_words, in_blocks, lift_case, lift_cases, lower_case, lower_cases, members_of, payloads_there, shared_slots, free_words_cases, free_words_code, free_words_kind, free_words_leaf, lift_code, lift_kind, lift_leaf, lower_code, lower_kind, lower_leaf, of_words}
 use Rattle.abi_bindgen.specs.Flow.{Flow, behind, both, each, emit, emit_some, in_block, leading, leave_none, same, ◌>>>◌}
 use Rattle.abi_bindgen.specs.Instructions.{case_lifting, case_lowering, has_cases, lifting, lowering}
 use Rattle.abi_bindgen.specs.Cases.{payloads_of}
@@ -164,16 +167,27 @@ module _ (types : List TypeDef) (down : GoesDown types) (id : TypeId) (entry : T
   unfolding free_words_code
   free_words_flags_code members e = made_by_kind free_words_leaf (free_words_kind types) types id entry (kind.Flags members) down at e
 
-  -- no code is made so far for what has cases
-  pub free_words_cases_code : (k : TypeDefKind) → entry.kind ≡ k → has_cases k ≡ true → free_words_code types (wit.Id id) ≡ leave_none
+  freed_by_cases : (k : TypeDefKind) → entry.kind ≡ k → has_cases k ≡ true → free_words_code types (wit.Id id) ≡ free_words_cases types id.0 (payloads_of k) (map (free_words_code types) (payloads_there (payloads_of k)))
   unfolding free_words_code
-  free_words_cases_code k e has = made_by_kind free_words_leaf (free_words_kind types) types id entry k down at e ∙ by_kind k has
+  freed_by_cases k e has = made_by_kind free_words_leaf (free_words_kind types) types id entry k down at e ∙ by_kind k has
     where
-      by_kind : (k : TypeDefKind) → has_cases k ≡ true → free_words_kind types id.0 k (map (free_words_code types) (members_of k)) ≡ leave_none
+      by_kind : (k : TypeDefKind) → has_cases k ≡ true → free_words_kind types id.0 k (map (free_words_code types) (members_of k)) ≡ free_words_cases types id.0 (payloads_of k) (map (free_words_code types) (payloads_there (payloads_of k)))
       by_kind (kind.Variant members) h = refl
       by_kind (kind.Option ty) h = refl
       by_kind (kind.Result ok err) h = refl
       by_kind _ h = absurd cc
+
+  -- a variant, an option or a result without blocks, and one with some
+  pub free_words_none_code : (k : TypeDefKind) → entry.kind ≡ k → has_cases k ≡ true → has_list (shape_at types id.0) ≡ false → free_words_code types (wit.Id id) ≡ leave_none
+  free_words_none_code k e has none = freed_by_cases k e has ∙ cond-false (has_list (shape_at types id.0)) _ _ none
+
+  pub free_words_variant_code : (k : TypeDefKind) → entry.kind ≡ k → has_cases k ≡ true → has_list (shape_at types id.0) ≡ true
+      → free_words_code types (wit.Id id)
+      ≡ both (behind 1 >>> blocks_of_cases (length (shared_slots types (payloads_of k))) (lift_case types (shared_slots types (payloads_of k))) (free_words_code types) (payloads_of k)) (leading 1) >>> emit (GuestDeallocateVariant (length (payloads_of k)))
+  free_words_variant_code k e has some =
+      let shared = shared_slots types (payloads_of k) in
+      freed_by_cases k e has ∙ cond-true (has_list (shape_at types id.0)) _ _ some
+      ∙ ap (λ code. both (behind 1 >>> code) (leading 1) >>> emit (GuestDeallocateVariant (length (payloads_of k)))) (blocks_each (length shared) (lift_case types shared) (free_words_code types) (payloads_of k))
 
   pub free_words_record_code : (members : List Field) → entry.kind ≡ kind.Record members → free_words_code types (wit.Id id) ≡ each 0 (word_count types) (λ n ty. free_words_code types ty) 0 (map (λ f. f.ty) members)
   unfolding free_words_code

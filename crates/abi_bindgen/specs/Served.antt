@@ -1,9 +1,8 @@
 -- Which types the driver makes code for so far.
-use Rattle.std.specs.Prelude.{◌≡◌, ◌≤◌, ◌^◌, false, List, Option, None, Some}
+use Rattle.std.specs.Prelude.{◌≡◌, ◌≤◌, ◌^◌, List, Option, None, Some}
 use Rattle.wit_model.specs.declared.function.Function.{Function}
 use Rattle.wit_model.specs.declared.function.FunctionKind.TheVariants.{Freestanding}
 use Rattle.wit_model.specs.declared.types.TypeDef.{TypeDef}
-use Rattle.wrapper_meaning.specs.Kinds.{have_list}
 use Rattle.wrapper_meaning.specs.Shape.{Shape, Shapes, param_shapes, result_shape}
 use Rattle.wrapper_meaning.specs.Shape.Shape.{scalar, text, fields, tuple, cases, flags}
 use Rattle.wrapper_meaning.specs.Shape.Shapes.{none, more}
@@ -35,15 +34,3 @@ pub record ServesFunction (types : List TypeDef) (f : Function) : Type 0 where
   pub plain : f.kind ≡ Freestanding
   pub params : ServesAll (param_shapes types f)
   pub result : ServesResult (result_shape types f)
-
--- no case of it may have a text, a list or a map: so far blocks that words name are freed of such alone
-abbrev mutual
-  pub IsFreedByWords : Shape → Type 0
-  IsFreedByWords (fields ts) = AreFreedByWords ts
-  IsFreedByWords (tuple ts) = AreFreedByWords ts
-  IsFreedByWords (cases ts) = have_list ts ≡ false
-  IsFreedByWords _ = Unit {0}
-
-  pub AreFreedByWords : Shapes → Type 0
-  AreFreedByWords none = Unit {0}
-  AreFreedByWords (more t ts) = IsFreedByWords t × AreFreedByWords ts

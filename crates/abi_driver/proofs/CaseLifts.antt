@@ -1,12 +1,11 @@
 -- Core words become cases of a type, by a block for each; and then the instruction makes the value.
-use Rattle.std.proofs.Common.{◌≡◌, ◌⊎◌, ℕ, zero, suc, ◌+◌, ◌<◌, ◌≤◌, ◌^◌, ◌%◌, nat_lt, Bool, true, false, if◌then◌else◌, pos, List, [], ◌∷◌, ◌++◌, length, map, reverse, take, drop, Option, None, Some, refl, sym, ap, ap₂, ◌∙◌, subst, arith, append-nil, append_assoc}
+use Rattle.std.proofs.Common.{◌≡◌, ℕ, zero, suc, ◌+◌, ◌≤◌, nat_lt, Bool, true, false, if◌then◌else◌, pos, List, [], ◌∷◌, ◌++◌, length, reverse, take, drop, Option, None, Some, refl, sym, ap, ap₂, ◌∙◌, subst, arith, append-nil}
 use Rattle.std.specs.List.{flat_map, slice_get}
 use Rattle.std.proofs.lemmas.Bool.{cond-true, lt-ltb}
-use Rattle.std.proofs.lemmas.List.{length-append, length-map, length-reverse, length-take-le, reverse-reverse, take-append-drop}
+use Rattle.std.proofs.lemmas.List.{length-map, length-reverse, length-take-le, reverse-reverse, take-append-drop}
 use mathlib.Core.Logic.{inl, inr}
 use Rattle.wit_model.specs.declared.wasm_type.WasmType.{WasmType}
 use Rattle.wit_layout.specs.Flat.{flatten_type, slots}
-use Rattle.wit_layout.proofs.AheadTurns.{entry_at}
 use Rattle.wrapper_data.specs.declared.block.Block.{Block}
 use Rattle.wrapper_data.specs.declared.form.Form.{Form}
 use Rattle.wrapper_data.specs.declared.word.Word.{Word}
@@ -22,22 +21,19 @@ use Rattle.wrapper_meaning.specs.Shape.Shape.{cases}
 use Rattle.wrapper_meaning.specs.Shape.Shapes.{none, more}
 use Rattle.wrapper_meaning.specs.Value.{Case, case_number}
 use Rattle.wrapper_meaning.specs.Words.{AreWords, read_slots}
-use Rattle.wrapper_meaning.proofs.Lists.{some_same}
 use Rattle.wrapper_meaning.proofs.PostReturn.{total-append}
 use Rattle.wrapper_meaning.proofs.WordsDetermined.{are_words-length}
-use Rattle.abi_bindgen.specs.Account.{Account, Act, Done, Follows, Got, Outcome, Peer, Stuck, addresses, gives, then_do}
-use Rattle.abi_bindgen.specs.Arms.{Armed, arm, arms, choosing, gives_payload, matching}
-use Rattle.abi_bindgen.specs.Blocks.{Finishes, Gives, Pushes, names, owned_datum}
-use Rattle.abi_bindgen.specs.CaseBlocks.{AddsBlocks, LiftsCases, TakesPayload}
+use Rattle.abi_bindgen.specs.Account.{Done, Got, Outcome, Peer, Stuck, addresses, then_do}
+use Rattle.abi_bindgen.specs.Arms.{arm, arms, choosing, gives_payload, matching}
+use Rattle.abi_bindgen.specs.Blocks.{Finishes, Pushes, owned_datum}
+use Rattle.abi_bindgen.specs.CaseBlocks.{LiftsCases, TakesPayload}
 use Rattle.abi_bindgen.specs.Cases.{IsPayload, LiftsCase, PayloadStands}
-use Rattle.abi_bindgen.specs.Constants.{cast_words}
 use Rattle.abi_bindgen.specs.Instructions.{AddsCode}
-use Rattle.abi_bindgen.specs.Laws.{Adds, After, At, Data, Facts, Sound, core_data, item_data, ofs}
+use Rattle.abi_bindgen.specs.Laws.{Adds, At, Data, Facts, Sound, core_data, item_data, ofs}
 use Rattle.abi_bindgen.specs.Lifts.{LiftsFlat, MayTake, OneStands, TakesOver, took}
 use Rattle.abi_bindgen.specs.Meaning.{Ended, Meaning, item, of, with_nothing, word}
 use Rattle.abi_bindgen.specs.Parts.{count}
 use Rattle.abi_bindgen.specs.SlotCasts.{CastsAll, FitIn}
-use Rattle.abi_bindgen.specs.Turns.{Arrives, Moved, Went}
 use Rattle.abi_bindgen.proofs.BlockRuns.{begun, block_runs, blocks_both, blocks_used, code_grows, get_behind, get_front, no_blocks, one_block, take_front, words_facts}
 use Rattle.abi_bindgen.proofs.CaseLowers.{number_below}
 use Rattle.abi_driver.proofs.LiftSteps.{follows_done}
@@ -46,7 +42,7 @@ use Rattle.abi_driver.proofs.TakingOver.{took_none}
 use Rattle.abi_bindgen.proofs.WordBits.{cast_back, fit_length}
 
 -- the first words
-words_front : (w n : ℕ) (ds : List WasmType) (ws : List Word) → AreWords w ds ws → AreWords w (take n ds) (take n ws)
+pub words_front : (w n : ℕ) (ds : List WasmType) (ws : List Word) → AreWords w ds ws → AreWords w (take n ds) (take n ws)
 words_front w zero ds ws h = refl
 words_front w (suc n) [] ws h = ap (take (suc n)) h
 words_front w (suc n) (d ∷ ds) [] h = absurd h
@@ -66,6 +62,14 @@ module _ {Self Operand : Type 0} (m : Meaning Self Operand) (sound : Sound m) wh
 
   outer_facts : (w : m.World) (b : Self) (xs ys zs : Facts m) (s : m.State) → m.denotes w b (xs ++ (ys ++ zs)) s → m.denotes w b (xs ++ zs) s
   outer_facts w b xs ys zs s h = sound.fewer w b ys (xs ++ zs) s (sound.swap w b xs ys zs s h)
+
+  -- the facts of the first slots, and of the others
+  pub slot_facts : (os : List Operand) (n : ℕ) (shared : List Word) → length shared ≡ length os → n ≤ length os
+      → ofs m os (core_data m shared) ≡ ofs m (take n os) (core_data m (take n shared)) ++ ofs m (drop n os) (core_data m (drop n shared))
+  slot_facts os n shared len few =
+      let many : length (core_data m (take n shared)) ≡ length (take n os) = length-map (take n shared) (λ w. word w) ∙ omega (arith, length-take-le n shared (omega (arith, len, few)), length-take-le n os few) in
+      sym (ap₂ (λ ps zs. ofs m ps (core_data m zs)) (take-append-drop n os) (take-append-drop n shared)) ∙ ap (ofs m (take n os ++ drop n os)) (core_append m (take n shared) (drop n shared))
+      ∙ ofs_append m (take n os) (drop n os) (core_data m (take n shared)) (core_data m (drop n shared)) many
 
   payload_owned : (ts : Shapes) (c : Case ts) (ds : Data m) (payload : Option m.Item) (own : List Block) → IsPayload m ds payload → PayloadStands m taken ts c payload own → SameItems (flat_map (owned_datum m) ds) (addresses own)
   payload_owned none c ds payload own is st = elim c [ ]
@@ -120,14 +124,6 @@ module _ {Self Operand : Type 0} (m : Meaning Self Operand) (sound : Sound m) wh
     adds_bd : Adds m b d
     adds_bd = adds_both m b c d casts.adds lift.adds
 
-    -- the facts of the slots that are read, and of the others
-    slot_facts : (n : ℕ) (shared : List Word) → length shared ≡ length os → n ≤ length os
-        → ofs m os (core_data m shared) ≡ ofs m (take n os) (core_data m (take n shared)) ++ ofs m (drop n os) (core_data m (drop n shared))
-    slot_facts n shared len few =
-        let many : length (core_data m (take n shared)) ≡ length (take n os) = length-map (take n shared) (λ w. word w) ∙ omega (arith, length-take-le n shared (omega (arith, len, few)), length-take-le n os few) in
-        sym (ap₂ (λ ps zs. ofs m ps (core_data m zs)) (take-append-drop n os) (take-append-drop n shared)) ∙ ap (ofs m (take n os ++ drop n os)) (core_append m (take n shared) (drop n shared))
-        ∙ ofs_append m (take n os) (drop n os) (core_data m (take n shared)) (core_data m (drop n shared)) many
-
     full_row : (k : Case (more t none)) (shared : List Word) (own : List Block) → IsListedCase (more t none) k → AreWords m.width ds shared → CaseSays m.width taken (more t none) k shared own
         → (body : m.Block) × (slice_get (close_block.block ∷ []) (case_number (more t none) k) ≡ Some body)
         × ((w : m.World) (p : Peer m.Item) (later : Self) (before s : m.State) → m.serves w e → m.denotes w a (ofs m os (core_data m shared)) before → m.denotes w later (ofs m os (core_data m shared)) s → MayTake own (m.account s)
@@ -149,7 +145,7 @@ module _ {Self Operand : Type 0} (m : Meaning Self Operand) (sound : Sound m) wh
           let inside : m.denotes w b facts u = open_block.enters w later facts before s with_nothing (words_facts m os shared) hb hs in
           let svd = close_block.lasts.serves w sv in
           let at1 : At m w p b c (ins ++ others) u u =
-          record { serves = lift.adds.grows.serves w svd; done = begun m sound a b d e (r ∷ []) open_block adds_bd close_block w p u; holds = subst (λ fs. m.denotes w b fs u) (slot_facts n shared len few) inside } in
+          record { serves = lift.adds.grows.serves w svd; done = begun m sound a b d e (r ∷ []) open_block adds_bd close_block w p u; holds = subst (λ fs. m.denotes w b fs u) (slot_facts os n shared len few) inside } in
           let one = casts.row first (words_front m.width n ds shared are) w p others u u at1 in
           let t1 = one.0 in
           let after1 = one.2.2 in

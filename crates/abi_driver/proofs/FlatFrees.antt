@@ -1,5 +1,5 @@
 -- The blocks of values that words represent are freed: of scalars, enums, flags and some cases, which have none, of texts, and of parts.
-use Rattle.std.proofs.Common.{◌≡◌, ℕ, zero, suc, ◌+◌, ◌≤◌, ◌<◌, false, List, [], ◌∷◌, ◌++◌, length, take, drop, get_or, Some, refl, sym, ap, ◌∙◌, subst, arith, append_assoc, append-nil}
+use Rattle.std.proofs.Common.{◌≡◌, ℕ, suc, ◌+◌, ◌≤◌, false, List, [], ◌∷◌, ◌++◌, length, take, drop, Some, refl, sym, ap, ◌∙◌, subst, arith, append_assoc, append-nil}
 use Rattle.std.proofs.lemmas.Bool.{or_parts, true≢false}
 use Rattle.std.proofs.lemmas.List.{drop-drop, drop_all, length-append, length-drop, length-map, length-take-le, take-append-drop}
 use mathlib.Core.Logic.{inl, inr}
@@ -28,7 +28,7 @@ use Rattle.abi_bindgen.specs.Laws.{At, Facts, Sound, core_data, ofs}
 use Rattle.abi_bindgen.specs.Lifts.{MayTake}
 use Rattle.abi_bindgen.specs.Meaning.{Meaning, word}
 use Rattle.abi_bindgen.specs.Memory.{freeing}
-use Rattle.abi_bindgen.specs.Served.{AreFreedByWords, IsFreedByWords, Serves, ServesAll}
+use Rattle.abi_bindgen.specs.Served.{Serves, ServesAll}
 use Rattle.abi_bindgen.proofs.BareCases.{no_slots, none_said}
 use Rattle.abi_driver.proofs.Done.{does_done}
 use Rattle.abi_driver.proofs.Freeing.{freed_both, frees_text, may_after}
@@ -62,11 +62,6 @@ module _ (w : ℕ) (dir : Direction) where
     case_none none served lacks c shared own says = elim c [ ]
     case_none (more t ts) served lacks (inl v) shared own says = says_none t served.0 (or_parts (has_list t) (have_list ts) lacks).0 v (read_slots w (flatten_type (layout t)) shared) own says.0
     case_none (more t ts) served lacks (inr c) shared own says = case_none ts served.1 (or_parts (has_list t) (have_list ts) lacks).1 c shared own says
-
-pub part_freed : (types : List TypeDef) (tys : List WitType) (i : ℕ) (d : WitType) → AreFreedByWords (shapes_of types tys) → i < length tys → IsFreedByWords (shape_of types (get_or tys i d))
-part_freed types [] i d all short = absurd (omega (arith, short))
-part_freed types (ty ∷ tys) zero d all short = all.0
-part_freed types (ty ∷ tys) (suc i) d all short = part_freed types tys i d all.1 (omega (arith, short))
 
 module _ {Self Operand : Type 0} (m : Meaning Self Operand) (sound : Sound m) (types : List TypeDef) where
   -- values without blocks are freed by no code
@@ -115,7 +110,7 @@ module _ {Self Operand : Type 0} (m : Meaning Self Operand) (sound : Sound m) (t
   pub flags_passed : (n : ℕ) (a : Self) (words : List Operand) (at : ℕ) → at + flag_words n ≤ length words → Freed (flags n) words at (at + flag_words n) a a
   flags_passed n a words at room = passed (flags n) (λ v ws own says. says.2) a words at (flag_words n) (sym (length_words n)) room
 
-  pub cases_passed : (ts : Shapes) (a : Self) (words : List Operand) (at count : ℕ) → Serves (cases ts) → IsFreedByWords (cases ts) → count ≡ length (flatten_type (layout (cases ts))) → at + count ≤ length words → Freed (cases ts) words at (at + count) a a
+  pub cases_passed : (ts : Shapes) (a : Self) (words : List Operand) (at count : ℕ) → Serves (cases ts) → has_list (cases ts) ≡ false → count ≡ length (flatten_type (layout (cases ts))) → at + count ≤ length words → Freed (cases ts) words at (at + count) a a
   cases_passed ts a words at count served lacks many room = passed (cases ts) (λ v ws own says. says_none m.width give (cases ts) served lacks v ws own says) a words at count many room
 
   pub text_freed : (a b : Self) (o p : Operand) (rs : List Operand) → Emits m types GuestDeallocateString (o ∷ p ∷ []) rs a b → FreesFlat m text (o ∷ p ∷ []) a b

@@ -52,7 +52,9 @@ pub mod CaseStores
 pub mod VariantStores
 pub mod CaseLoads
 pub mod ArmSteps
+pub mod ArmFrees
 pub mod VariantLoads
 pub mod CaseFrees
+pub mod SlotFrees
 pub mod VariantFrees
 mod ScalarTouched

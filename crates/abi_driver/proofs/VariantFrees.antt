@@ -1,7 +1,6 @@
 -- The blocks of a value with cases are freed by the blocks of its cases.
-use Rattle.std.proofs.Common.{◌≡◌, ℕ, ◌+◌, ◌^◌, ◌<◌, ◌≤◌, true, false, pos, List, [], ◌∷◌, ◌++◌, length, drop, replicate, Option, Some, refl, sym, ap, ap₂, ◌∙◌, subst, arith}
+use Rattle.std.proofs.Common.{◌≡◌, ℕ, ◌+◌, ◌^◌, ◌<◌, ◌≤◌, true, false, pos, List, [], ◌∷◌, ◌++◌, length, replicate, Option, Some, refl, sym, ap, ap₂, ◌∙◌, subst, arith}
 use Rattle.std.specs.List.{slice_get}
-use Rattle.std.proofs.lemmas.List.{length-replicate}
 use Rattle.wit_model.specs.Size.{bytes_at}
 use Rattle.wit_model.specs.declared.size.ArchitectureSize.{ArchitectureSize}
 use Rattle.wit_model.specs.declared.types.TypeDef.{TypeDef}
@@ -30,12 +29,11 @@ use Rattle.wrapper_meaning.specs.Shape.Shapes.{none, more}
 use Rattle.wrapper_meaning.specs.Value.{Case, case_number}
 use Rattle.abi_bindgen.specs.declared.instruction.Instruction.TheVariants.{GuestDeallocateVariant}
 use Rattle.abi_bindgen.specs.Account.{Account, Done, Peer}
-use Rattle.abi_bindgen.specs.Arms.{arms, gives_nothing, matching}
-use Rattle.abi_driver.specs.FinishedBlocks.{HasPayloadRoom}
+use Rattle.abi_driver.specs.FinishedBlocks.{AddsBlocks, HasPayloadRoom}
 use Rattle.abi_driver.specs.FreedCases.{FreesCases}
 use Rattle.abi_bindgen.specs.Frees.{Frees, FreesInMemory, MayFree, by_freeing}
 use Rattle.abi_bindgen.specs.Instructions.{Emits, has_cases}
-use Rattle.abi_bindgen.specs.Laws.{At, Facts, Grows, Quiet, Sound, StaysUncalled}
+use Rattle.abi_bindgen.specs.Laws.{Adds, At, Facts, Sound}
 use Rattle.abi_bindgen.specs.Meaning.{Meaning, of, word}
 use Rattle.abi_bindgen.specs.NumberTouches.{number_load, tag_load}
 use Rattle.abi_bindgen.specs.Parts.{count}
@@ -43,12 +41,10 @@ use Rattle.abi_bindgen.specs.Touches.{reached}
 use Rattle.abi_bindgen.specs.Flow.{Flow, emit, leave_none, both, ◌>>>◌}
 use Rattle.abi_bindgen.specs.Flows.{Flows}
 use Rattle.abi_bindgen.proofs.BareCases.{read_number}
-use Rattle.abi_driver.proofs.ArmSteps.{arm_runs, went}
+use Rattle.abi_driver.proofs.ArmFrees.{arm_adds, arm_frees}
 use Rattle.abi_driver.proofs.Tags.{tag_grain_small}
 use Rattle.abi_bindgen.proofs.CaseLowers.{number_below}
 use Rattle.abi_driver.proofs.CaseRooms.{case_room, count_layouts, payload_room}
-use Rattle.abi_driver.proofs.CaseSteps.{arms_are, arms_gone, front_only, plain_total, resumes_then, uses_blocks}
-use Rattle.abi_driver.proofs.LiftSteps.{follows_done}
 use Rattle.abi_driver.proofs.LeafFrees.{alone_at}
 use Rattle.abi_driver.proofs.MemoryCode.{cases_place, free_none_code, free_variant_code}
 use Rattle.abi_driver.proofs.PartOffsets.{payload_offset_of, payload_sent}
@@ -64,57 +60,28 @@ some_case none h = absurd (let e = h in cc)
 some_case (more t ts) h = omega arith
 
 module _ {Self Operand : Type 0} (m : Meaning Self Operand) (sound : Sound m) (types : List TypeDef) (n : ℕ) (ts : Shapes) (b c d : Self) (address x : Operand) (place : ArchitectureSize) (is : count ts ≡ n) (frees : FreesCases m ts address place b c) (arm : Emits m types (GuestDeallocateVariant n) (x ∷ []) [] c d) where
-  many : length {A = ℕ} (replicate (count ts) 0) ≡ n
-  many = length-replicate (count ts) 0 ∙ is
+  finished : AddsBlocks m (replicate n 0) frees.bodies b c
+  finished = subst (λ j. AddsBlocks m (replicate j 0) frees.bodies b c) is frees.adds
 
-  uses : Grows m c d × Quiet m c d × StaysUncalled m c d
-  uses = uses_blocks m (replicate n 0) c d arm.adds
+  uses : Adds m b d
+  uses = arm_adds m sound types n b c d x frees.bodies finished arm
 
   -- behind the tag: the blocks of all cases, and then the instruction that runs the one of the tag's case
   blocks_free : (v : Case ts) (own : List Block) → IsListedCase ts v → (w : m.World) (f : Peer m.Item) (others : Facts m) (s0 s : m.State) (q k : ℕ) (blk : Block) → m.serves w d → m.does w f (m.code b) s0 ≡ Done s
       → m.denotes w b (of x (word (core.I32 (pos (case_number ts v)))) ∷ of address (word (core.Pointer q)) ∷ others) s → HasPayloadRoom (greatest (extents_of m.width (layouts ts))) (reached m q place) blk k (m.account s).heap
       → CaseHolds m.width give ts v blk k own → MayFree own blk (m.account s) → Frees m own d w f others s0 s
   blocks_free v own listed w f others s0 s q k blk serves done tag room holds may =
-      let i = case_number ts v in
-      let pointer : Facts m = of address (word (core.Pointer q)) ∷ [] in
-      let read : Facts m = of x (word (core.I32 (pos i))) ∷ [] in
-      let serves_c = uses.0.serves w serves in
-      let low : i < n = subst (λ j. i < j) is (number_below ts v) in
-      let at1 : At m w f c d (read ++ (pointer ++ others)) s0 s = record { serves = serves; done = ap (λ code. m.does w f code s0) frees.adds.resumes.code ∙ done; holds = frees.adds.resumes.known w (read ++ (pointer ++ others)) s tag } in
-      let ran = arm.row (core.I32 (pos i)) w f (pointer ++ others) s0 s at1 in
-      let begin = ran.0 in
-      let moved = ran.1 in
-      let known : m.denotes w b pointer s = front_only m sound w b pointer others s (sound.fewer w b read (pointer ++ others) s tag) in
-      let held : m.denotes w c (pointer ++ others) begin = moved.denotes (pointer ++ others) at1.holds in
       let found = frees.row v in
-      let body = found.0 in
-      let here : slice_get (arms m n (m.blocks c)) i ≡ Some body = ap (λ bs. slice_get bs i) (arms_are m (replicate (count ts) 0) frees.bodies b c n frees.adds many) ∙ found.1 in
-      let room1 = subst (λ (z : Account m.Item). HasPayloadRoom (greatest (extents_of m.width (layouts ts))) (reached m q place) blk k z.heap) (sym moved.account) room in
-      let freed = found.2 own listed w f c s begin q k blk serves_c known (front_only m sound w c pointer others begin held) room1 holds (subst (λ (z : Account m.Item). MayFree own blk z) (sym moved.account) may) in
-      let gives = freed.1 in
-      let armed = arm_runs m (gives_nothing m) w f true n (m.blocks c) i begin freed.0 body [] low here gives refl in
-      let last = follows_done m.account (matching m (gives_nothing m) w f true n (m.blocks c) (core.I32 (pos i)) begin) (m.does w f (m.code d) s0) _ (went m i [] gives.state) armed ran.2 in
-      let t = last.0 in
-      let arrives = last.2 in
-      let outs = arrives.denotes (gives.denotes c (pointer ++ others) held) in (
-        t,
-        last.1,
-        record {
-          account = arrives.account ∙ gives.account ∙ freed.2 ∙ ap (λ (z : Account m.Item). (by_freeing own z).account) moved.account;
-          owns = λ h.
-              let before = gives.owns h ∙ sym (plain_total h (m.owns begin)) ∙ moved.owns h in
-              plain_total h (m.owns t) ∙ arrives.owns h ∙ plain_total h (m.owns gives.state) ∙ before ∙ sym (plain_total h (m.owns s));
-          denotes = sound.fewer w d pointer others t (subst (λ fs. m.denotes w d (fs ++ (pointer ++ others)) t) outs.1 outs.2);
-        },
-      )
+      let room_at : Account m.Item → Type 0 = λ z. HasPayloadRoom (greatest (extents_of m.width (layouts ts))) (reached m q place) blk k z.heap in
+      arm_frees m sound types n b c d x frees.bodies finished arm (case_number ts v) found.0 (subst (λ j. case_number ts v < j) is (number_below ts v)) found.1 own w f (of address (word (core.Pointer q)) ∷ []) others s0 s serves done tag
+      (λ begin served known held same. found.2 own listed w f c s begin q k blk served known held (subst room_at (sym same) room) holds (subst (λ (z : Account m.Item). MayFree own blk z) (sym same) may))
 
   -- and with the tag
   pub variant_frees : (a : Self) (offset : ArchitectureSize) → count ts ≤ 2 ^ 31 → bytes_at place (2 ^ m.width) ≡ bytes_at offset (2 ^ m.width) + payload_offset m.width (layout (cases ts))
       → Emits m types (number_load (discriminant_grain (tree_count (layouts ts))) offset) (address ∷ []) (x ∷ []) a b → FreesInMemory m (cases ts) address offset a d
   variant_frees a offset most behind e =
-      let gone = arm.blocks ∙ ap (λ j. drop j (m.blocks c)) (length-replicate n 0) ∙ arms_gone m (replicate (count ts) 0) frees.bodies b c n frees.adds many in
       record {
-        adds = adds_both m a b d (number_load_adds m sound types (discriminant_grain (tree_count (layouts ts))) offset (address ∷ []) (x ∷ []) a b e) (resumes_then m b c d frees.adds.resumes uses.0 uses.1 uses.2 arm.asked gone);
+        adds = adds_both m a b d (number_load_adds m sound types (discriminant_grain (tree_count (layouts ts))) offset (address ∷ []) (x ∷ []) a b e) uses;
         row = λ v own listed w f others s0 s q k blk at room holds may.
             let g = discriminant_grain (tree_count (layouts ts)) in
             let i = case_number ts v in
@@ -126,7 +93,7 @@ module _ {Self Operand : Type 0} (m : Meaning Self Operand) (sound : Sound m) (t
             let low = number_below ts v in
             let few : i < 2 ^ 31 = omega (arith, low, most) in
             let at1 : At m w f a b (of address (word (core.Pointer q)) ∷ (pointer ++ others)) s0 s =
-            record { serves = frees.adds.resumes.serves w (uses.0.serves w at.serves); done = at.done; holds = sound.again w a address (core.Pointer q) others s at.holds } in
+            record { serves = uses.grows.serves w at.serves; done = at.done; holds = sound.again w a address (core.Pointer q) others s at.holds } in
             let one = number_loaded m sound types g offset address x a b (tag_grain_small (tree_count (layouts ts))) e w f (pointer ++ others) s0 s q k i blk at1 room.formed room.there room.starts (omega (arith, room1.fits, room1.apart)) room1.tag_aligned holds.0 in
             let s1 = one.0 in
             let after1 = one.2 in

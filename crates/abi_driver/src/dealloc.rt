@@ -13,7 +13,7 @@ ghost use Rattle.abi_bindgen.specs.Code.{free_types_code};
 ghost use Rattle.abi_bindgen.specs.Frees.{FreesTypes};
 ghost use Rattle.abi_bindgen.specs.Instructions.{shapes_of};
 ghost use Rattle.abi_bindgen.specs.Flows.{Flows};
-ghost use Rattle.abi_bindgen.specs.Served.{AreFreedByWords, ServesAll};
+ghost use Rattle.abi_bindgen.specs.Served.{ServesAll};
 ghost use Rattle.abi_bindgen.specs.WordCount.{word_counts};
 ghost use Rattle.abi_driver.specs.Low.{IsSmallRecord};
 
@@ -27,8 +27,8 @@ use wit_model::{List, OutOfMemory, Resolve, WitType};
 ///
 /// Where they were passed indirectly, one operand denotes the address of a record of them. It has at most 2^31 - 1 bytes where pointers have 8.
 /// Else there is an operand for each of their words, of which there are sixteen at most. So far they are scalars, texts, enums and flags, or
-/// records, tuples, variants, options and results of such, also through aliases. Where words are passed, no variant, option or result may have
-/// a text. The answer is `OutOfMemory` where there is no memory for the code, or for the operands.
+/// records, tuples, variants, options and results of such, also through aliases. The answer is `OutOfMemory` where there is no memory for the
+/// code, or for the operands.
 pub fn deallocate_lists_in_types<B: Bindgen>(
     alloc: Global,
     resolve: &Resolve,
@@ -43,7 +43,7 @@ pub fn deallocate_lists_in_types<B: Bindgen>(
     requires knows { B.meaning.knows bindgen.old resolve.now.types }
     requires serves { ServesAll (shapes_of resolve.now.types types.now) }
     requires record { indirect ≡ true → IsSmallRecord resolve.now.types types.now × (length operands.now ≡ 1) }
-    requires words { indirect ≡ false → AreFreedByWords (shapes_of resolve.now.types types.now) × (length operands.now ≡ word_counts resolve.now.types types.now) }
+    requires words { indirect ≡ false → length operands.now ≡ word_counts resolve.now.types types.now }
     requires few { indirect ≡ false → length operands.now ≤ 16 }
     ensures frees { OnOk result (FreesTypes B.meaning indirect (shapes_of resolve.now.types types.now) operands.now bindgen.old bindgen.new) }
     ensures flows { OnOk result (Flows B.meaning resolve.now.types (free_types_code resolve.now.types indirect types.now) operands.now [] bindgen.old bindgen.new) }

@@ -12,7 +12,7 @@ use Rattle.wit_model.specs.declared.wasm_type.WasmType.TheVariants.{F32, I32, Le
 use Rattle.wit_layout.specs.declared.bitcast.Bitcast.TheVariants as bitcast
 use Rattle.wrapper_meaning.specs.Shape.{shapes}
 use Rattle.abi_bindgen.specs.declared.instruction.Instruction.TheVariants as i
-use Rattle.abi_bindgen.specs.Code.{lift_code, lower_code, made}
+use Rattle.abi_bindgen.specs.Code.{free_words_code, lift_code, lower_code, made}
 use Rattle.abi_bindgen.specs.Sent.{closes, opens, sends, sends_casts, sends_zeros}
 use Rattle.abi_driver.proofs.Instances.Steps.{steps}
 
@@ -28,11 +28,12 @@ of_kind k = record { name = None; owner = owner.None; kind = k; docs = no_docs }
 id : ℕ → WitType
 id n = wit.Id (record { 0 = n })
 
--- `result<f32, string>`, `option` of it, and a variant of a case without payload and one with a byte
+-- `result<f32, string>`, `option` of it, a variant of a case without payload and one with a byte, `option<string>` and `result<string, string>`
 types : List TypeDef
 types =
     of_kind (kind.Result (Some wit.F32) (Some wit.String)) ∷ of_kind (kind.Option (id 0))
-    ∷ of_kind (kind.Variant (record { name = no_name; ty = None; docs = no_docs } ∷ record { name = no_name; ty = Some wit.U8; docs = no_docs } ∷ [])) ∷ []
+    ∷ of_kind (kind.Variant (record { name = no_name; ty = None; docs = no_docs } ∷ record { name = no_name; ty = Some wit.U8; docs = no_docs } ∷ []))
+    ∷ of_kind (kind.Option wit.String) ∷ of_kind (kind.Result (Some wit.String) (Some wit.String)) ∷ []
 
 -- a float goes to the slot of a pointer, and the slot of a length is left over
 result_lowered : steps (lower_code types false (id 0))
@@ -59,3 +60,31 @@ variant_lowered : steps (lower_code types true (id 2))
     ∷ sends (i.VariantLower (record { 0 = 2 }) 2) ∷ []
 unfolding lower_code made shapes types of_kind id
 variant_lowered = refl
+
+-- freed by words: each case has a block
+option_freed : steps (free_words_code types (id 3)) ≡ opens ∷ closes ∷ opens ∷ sends i.GuestDeallocateString ∷ closes ∷ sends (i.GuestDeallocateVariant 2) ∷ []
+unfolding free_words_code made shapes types of_kind id
+option_freed = refl
+
+texts_freed : steps (free_words_code types (id 4))
+    ≡ opens ∷ sends i.GuestDeallocateString ∷ closes ∷ opens ∷ sends i.GuestDeallocateString ∷ closes ∷ sends (i.GuestDeallocateVariant 2) ∷ []
+unfolding free_words_code made shapes types of_kind id
+texts_freed = refl
+
+-- a block within a block, and a float that is cast back, though it has no block of memory
+nested_freed : steps (free_words_code types (id 1))
+    ≡ opens ∷ closes
+    ∷ opens ∷ opens ∷ sends_casts (bitcast.Sequence Pointer I32 F32 ∷ []) ∷ closes ∷ opens ∷ sends i.GuestDeallocateString ∷ closes ∷ sends (i.GuestDeallocateVariant 2) ∷ closes
+    ∷ sends (i.GuestDeallocateVariant 2) ∷ []
+unfolding free_words_code made shapes types of_kind id
+nested_freed = refl
+
+-- where no case has a block of memory, nothing is sent
+bytes_freed : steps (free_words_code types (id 2)) ≡ []
+unfolding free_words_code made shapes types of_kind id
+bytes_freed = refl
+
+-- the first case's block for each case is refused
+first_twice : steps (free_words_code types (id 3)) ≡ opens ∷ closes ∷ opens ∷ closes ∷ sends (i.GuestDeallocateVariant 2) ∷ [] → ⊥
+unfolding free_words_code made shapes types of_kind id
+first_twice h = let e = h in cc

@@ -15,7 +15,7 @@ pub deallocate_lists_in_types-requires-clause-record : goal.deallocate_lists_in_
 deallocate_lists_in_types-requires-clause-record c = λ e. absurd (cc)
 
 pub deallocate_lists_in_types-requires-clause-words : goal.deallocate_lists_in_types-requires-clause-words
-deallocate_lists_in_types-requires-clause-words c = λ e. ((tt, tt), c.in_ok-words.ensures)
+deallocate_lists_in_types-requires-clause-words c = λ e. c.in_ok-words.ensures
 
 pub deallocate_lists_in_types-requires-clause-few : goal.deallocate_lists_in_types-requires-clause-few
 deallocate_lists_in_types-requires-clause-few c = λ e. omega (arith, c.in_ok-words.ensures)
