@@ -19,6 +19,7 @@ pub mod Runs
 pub mod SaysTypes
 pub mod ScalarRanges
 pub mod Serving
+pub mod SpentFlows
 pub mod Taken
 pub mod Variants
 pub mod WordBits

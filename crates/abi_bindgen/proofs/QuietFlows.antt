@@ -59,7 +59,7 @@ each_quiet : {A : Type 0} (P : A → Type 0) (shared : ℕ) (own : A → ℕ) (f
 each_quiet P shared own f h n [] all = refl
 each_quiet P shared own f h n (x ∷ xs) all = quiet_two (is_quiet (f n x)) (is_quiet (each shared own f (suc n) xs)) (h n x all.0) (each_quiet P shared own f h (suc n) xs all.1)
 
-any : {A : Type 0} (xs : List A) → AllByRecursion (λ (x : A). Unit {0}) xs
+pub any : {A : Type 0} (xs : List A) → AllByRecursion (λ (x : A). Unit {0}) xs
 any [] = tt
 any (x ∷ xs) = (tt, any xs)
 
@@ -71,10 +71,10 @@ back_quiet shared own f h n [] = refl
 back_quiet shared own f h n (x ∷ xs) = quiet_two (is_quiet (each_back shared own f (suc n) xs)) (is_quiet (f n x)) (back_quiet shared own f h (suc n) xs) (h n x)
 
 -- what is made for a payload keeps what each part keeps
-abbrev Kept : {A : Type 0} → (A → Type 0) → Option (WitType × A) → Type 0
+abbrev pub Kept : {A : Type 0} → (A → Type 0) → Option (WitType × A) → Type 0
 Kept P o = IfSome o (λ x. P x.1)
 
-by_case_all : {A : Type 0} (P : A → Type 0) (payloads : List (Option WitType)) (parts : List A) → AllByRecursion P parts → AllByRecursion (Kept P) (by_case payloads parts)
+pub by_case_all : {A : Type 0} (P : A → Type 0) (payloads : List (Option WitType)) (parts : List A) → AllByRecursion P parts → AllByRecursion (Kept P) (by_case payloads parts)
 by_case_all P [] parts all = tt
 by_case_all P (None ∷ payloads) parts all = (tt, by_case_all P payloads parts all)
 by_case_all P (Some ty ∷ payloads) [] all = (tt, by_case_all P payloads [] tt)
@@ -107,7 +107,7 @@ module _ {A : Type 0} (P : A → Type 0) (leaf : WitType → A) (by_kind : ℕ �
       let one = by_kind (length before) t.kind parts in
       behind_are (before ++ one ∷ []) types (push_all before one all (kind_is (length before) t.kind parts (parts_are before all (members_of t.kind))))
 
-  made_is : (types : List TypeDef) (ty : WitType) → P (made_for leaf by_kind types ty)
+  pub made_is : (types : List TypeDef) (ty : WitType) → P (made_for leaf by_kind types ty)
   unfolding made
   made_is types ty = in_is (made_behind leaf by_kind [] types) (behind_are [] types tt) ty
 
@@ -124,7 +124,7 @@ words_quiet types tys parts all = each_quiet (λ (x : WitType × Flow). IsQuiet 
     zip_all (ty ∷ tys) [] all = tt
     zip_all (ty ∷ tys) (part ∷ parts) all = (all.0, zip_all tys parts all.1)
 
-alias_is : {A : Type 0} (P : A → Type 0) (none : A) (parts : List A) → P none → AllByRecursion P parts → P (of_alias none parts)
+pub alias_is : {A : Type 0} (P : A → Type 0) (none : A) (parts : List A) → P none → AllByRecursion P parts → P (of_alias none parts)
 alias_is P none [] h all = h
 alias_is P none (part ∷ parts) h all = all.0
 

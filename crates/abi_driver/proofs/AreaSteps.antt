@@ -156,6 +156,7 @@ module _ {Self Operand : Type 0} (m : Meaning Self Operand) (sound : Sound m) wh
     records = [];
     for = subst (λ c. AreFor (if c then fields ts ∷ [] else []) []) (sym few) tt;
     asked = lowers.adds.asked ∙ sym (append-nil (m.asked a));
+    blocks = lowers.adds.blocks;
     fits = subst (λ c. MatchBool c (length os ≡ 1) (length os ≡ length (param_words ts))) (sym few) lowers.fits;
     row = λ w p vs vals given area others s0 s g needs at.
         let passes = lowers.row given vs vals [] g.listed g.stand in
@@ -239,6 +240,7 @@ module _ {Self Operand : Type 0} (m : Meaning Self Operand) (sound : Sound m) wh
     records = h.points.0 ∷ [];
     for = subst (λ c. AreFor (if c then fields ts ∷ [] else []) (h.points.0 ∷ [])) (sym many) h.points.1;
     asked = h.stores.adds.asked ∙ h.points.2.asked;
+    blocks = h.stores.adds.blocks ∙ h.points.2.blocks;
     fits = subst (λ c. MatchBool c (length (o ∷ []) ≡ 1) (length (o ∷ []) ≡ length (param_words ts))) (sym many) refl;
     row = λ w p vs vals given area others s0 s g needs at. record_lent ts o a b many h w p vs vals given area others s0 s g needs at;
   }
@@ -251,6 +253,13 @@ module _ {Self Operand : Type 0} (m : Meaning Self Operand) (sound : Sound m) wh
       by : (c : Bool) → MatchBool c ((o : Operand) × (t : Shape) × (r ≡ Some t) × (os ≡ o ∷ []) × Points m t o a b) ((os ≡ []) × (b ≡ a)) → Grows m a b × Quiet m a b
       by true h = (h.4.2.grows, h.4.2.quiet)
       by false h = subst (λ x. Grows m a x × Quiet m a x) (sym h.1) (grows_same m a, λ w f s v. refl)
+
+  pub points_blocks : (r : Option Shape) (os : List Operand) (a b : Self) → PointsAtResult m r os a b → m.blocks b ≡ m.blocks a
+  points_blocks r os a b h = by (is_indirect r) h
+    where
+      by : (c : Bool) → MatchBool c ((o : Operand) × (t : Shape) × (r ≡ Some t) × (os ≡ o ∷ []) × Points m t o a b) ((os ≡ []) × (b ≡ a)) → m.blocks b ≡ m.blocks a
+      by true h = h.4.2.blocks
+      by false h = ap m.blocks h.1
 
   -- the area as it was written has the same block
   one_written : (area written : List Block) (b : Block) → area ≡ b ∷ [] → SameArea area written → (c : Block) × (written ≡ c ∷ []) × (c.address ≡ b.address) × (c.size ≡ b.size)

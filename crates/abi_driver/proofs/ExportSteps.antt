@@ -232,11 +232,12 @@ module _ {Self Operand : Type 0} (m : Meaning Self Operand) (sound : Sound m) wh
     pub records : List Asked
     pub for : AreFor (result_record r) records
     pub asked : m.asked e ≡ m.asked d ++ records
+    pub blocks : m.blocks e ≡ m.blocks d
 
   given_direct : (r : Option Shape) (back given : List Operand) (d e : Self) → is_indirect r ≡ false → LowersAnswer m r back given d e → GivenOn r d e
   given_direct r back given d e one h =
       let adds = lowered_adds r back given d e h in
-      record { grows = adds.grows; quiet = adds.quiet; records = []; for = subst (λ ts. AreFor ts []) (sym (no_result_record r one)) tt; asked = adds.asked ∙ sym (append-nil (m.asked d)) }
+      record { grows = adds.grows; quiet = adds.quiet; records = []; for = subst (λ ts. AreFor ts []) (sym (no_result_record r one)) tt; asked = adds.asked ∙ sym (append-nil (m.asked d)); blocks = adds.blocks }
 
   given_on : (r : Option Shape) (back given : List Operand) (d e : Self) → GivesAnswer m r back given d e → GivenOn r d e
   given_on None back given d e h = given_direct None back given d e refl h
@@ -249,6 +250,7 @@ module _ {Self Operand : Type 0} (m : Meaning Self Operand) (sound : Sound m) wh
         records = h.points.0 ∷ [];
         for = subst (λ ts. AreFor ts (h.points.0 ∷ [])) (sym (ap (λ c. if c then t ∷ [] else []) many)) h.points.1;
         asked = h.stores.adds.asked ∙ h.points.2.asked;
+        blocks = h.stores.adds.blocks ∙ h.points.2.blocks;
       }
       by false one h = given_direct (Some t) back given d e one h
 
@@ -434,6 +436,7 @@ module _ {Self Operand : Type 0} (m : Meaning Self Operand) (sound : Sound m) wh
       records = on.records;
       for = on.for;
       asked = ended.adds.asked ∙ on.asked ∙ ap (λ xs. xs ++ on.records) (called.asked ∙ takes.adds.asked);
+      blocks = ended.adds.blocks ∙ on.blocks ∙ called.blocks ∙ takes.adds.blocks;
       row = λ w p us ws blocks others s0 s crossed is. record {
         call = call w p us ws blocks others s0 s crossed is;
         passes = passed w p us ws blocks others s0 s crossed is;

@@ -51,7 +51,7 @@ use Rattle.abi_bindgen.specs.Touches.{reached}
 use Rattle.abi_bindgen.specs.Code.{passed_count}
 use Rattle.abi_bindgen.specs.WordCount.{word_counts}
 use Rattle.abi_driver.proofs.AreaHeaps.{IsInside, contains_last, may_take_answered, silent_there, written_there}
-use Rattle.abi_driver.proofs.AreaSteps.{Names, ResultPointed, needs_for_parameters, needs_for_result, points_grows, result_pointed}
+use Rattle.abi_driver.proofs.AreaSteps.{Names, ResultPointed, needs_for_parameters, needs_for_result, points_blocks, points_grows, result_pointed}
 use Rattle.abi_driver.proofs.Done.{does_done}
 use Rattle.abi_driver.proofs.HonestAnswers.{AnswerSays, answer_typed, in_words}
 use Rattle.abi_bindgen.proofs.Runs.{adds_both, adds_same, addresses_both, core_append, ofs_append, ofs_none}
@@ -600,6 +600,7 @@ module _ {Self Operand : Type 0} (m : Meaning Self Operand) (sound : Sound m) wh
       records = asked_of.0;
       for = asked_of.1;
       asked = later.asked ∙ called.asked ∙ asked_of.2;
+      blocks = later.blocks ∙ called.blocks ∙ points_blocks m sound r pointer b c points ∙ passes.blocks;
       row = λ w p vs vals gave area others s0 s is. record {
         call = call w p vs vals gave area others s0 s is;
         passes = passed w p vs vals gave area others s0 s is;

@@ -1,5 +1,5 @@
 -- What the code of an export does: it calls the method once, whatever is answered, and gives words of what an honest one answers.
-use Rattle.std.specs.Prelude.{◌≡◌, ◌<◌, ◌^◌, ℕ, Bool, true, false, if◌then◌else◌, MatchBool, List, [], ◌∷◌, ◌++◌, length, Option, None, Some, option_to_list, slice_get}
+use Rattle.std.specs.Prelude.{◌≡◌, ◌<◌, ◌^◌, ℕ, Bool, true, false, if◌then◌else◌, MatchBool, List, [], ◌∷◌, ◌++◌, length, Option, None, Some, slice_get}
 use Rattle.wit_model.specs.declared.function.Function.{Function}
 use Rattle.wit_model.specs.declared.size.Alignment.{Alignment}
 use Rattle.wit_model.specs.declared.size.ArchitectureSize.{ArchitectureSize}
@@ -206,6 +206,8 @@ module _ {Self Operand : Type 0} (m : Meaning Self Operand) where
     pub records : List Asked
     pub for : AreFor (result_record r) records
     pub asked : m.asked new ≡ m.asked old ++ records
+    -- of the blocks that it finishes none is left over
+    pub blocks : m.blocks new ≡ m.blocks old
     -- where values of its parameters are passed as they are
     pub row : (w : m.World) (p : Peer m.Item) (us : Parts ts) (ws : List Word) (blocks : List Block) (others : Facts m) (s0 s : m.State) → PassesAsItIs m w old f ts → Received w p ts us ws blocks old new others s0 s
         → HandsOn w p old f ts us r blocks new s0 s

@@ -102,6 +102,7 @@ module _ {Self Operand : Type 0} (m : Meaning Self Operand) where
     pub records : List Asked
     pub for : AreFor (parameter_record ts) records
     pub asked : m.asked new ≡ m.asked old ++ records
+    pub blocks : m.blocks new ≡ m.blocks old
     pub fits : MatchBool (are_indirect ts) (length os ≡ 1) (length os ≡ length (param_words ts))
     pub row : (w : m.World) (p : Peer m.Item) (vs : Parts ts) (vals : List m.Item) (given area : List Block) (others : Facts m) (s0 s : m.State) → AreGiven ts vs vals given area s
         → NeedsArea (are_indirect ts) (m.area w) (m.area_at s0) area → At m w p old new (args m 0 (item_data m vals) ++ others) s0 s → Lent w p ts vs given area os new others s0 s
@@ -166,5 +167,7 @@ module _ {Self Operand : Type 0} (m : Meaning Self Operand) where
     pub records : List Asked
     pub for : AreFor (parameter_record ts ++ result_record r) records
     pub asked : m.asked new ≡ m.asked old ++ records
+    -- of the blocks that it finishes none is left over
+    pub blocks : m.blocks new ≡ m.blocks old
     pub row : (w : m.World) (p : Peer m.Item) (vs : Parts ts) (vals : List m.Item) (given area : List Block) (others : Facts m) (s0 s : m.State) → Given w p ts vs r vals given area old new others s0 s
         → Carries w p (m.target old f) ts vs r given area new others s0 s

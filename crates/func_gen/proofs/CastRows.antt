@@ -63,12 +63,11 @@ use Rattle.rust_tree.specs.declared.item.Item.{Item}
 use Rattle.abi_bindgen.specs.declared.instruction.Instruction.TheVariants.{Bitcasts}
 use Rattle.abi_bindgen.specs.Account.{Account}
 use Rattle.abi_bindgen.specs.Instructions.{Emits}
-use Rattle.abi_bindgen.specs.Sent.{sends}
 use Rattle.func_gen.specs.declared.function_bindgen.ParamSite.{ParamSite}
 use Rattle.func_gen.specs.Added.{Appends}
 use Rattle.func_gen.specs.CallForms.{FreshAll}
 use Rattle.func_gen.proofs.CallRows.{split_used}
-use Rattle.func_gen.proofs.Forming.{form_by}
+use Rattle.func_gen.proofs.Forming.{still_of, written}
 use Rattle.func_gen.proofs.PartRows.{areas_last}
 use Rattle.func_gen.proofs.Rows.{same_area}
 use Rattle.func_gen.proofs.Steps.{func_adds, ran}
@@ -359,6 +358,10 @@ casts_row types old new t cs os many small ok a fresh takes =
       returned = a.returned;
       asked = a.asked;
       results = casts_many 0 t cs.now os many;
-      form = form_by (sends (Bitcasts cs)) (record { gives = refl; calls = refl }) os old new rs (casts cs.now es) t refl takes a refl;
+      form = record {
+        still = still_of old new (stmts_from 0 cs.now es t) [] a;
+        given = many;
+        code = record { code = casts cs.now es; is = refl; writes = written old new rs (casts cs.now es) t takes a refl };
+      };
       row = casts_words old new t cs.now os a fresh small many;
     }

@@ -10,7 +10,7 @@ use Rattle.rust_tree.specs.declared.runtime_item.RuntimeItem.{RuntimeItem}
 use Rattle.rust_tree.specs.declared.stmt.Stmt.{Stmt}
 use Rattle.rust_tree.specs.declared.stmt.Stmt.TheVariants as stmt
 use Rattle.abi_bindgen.specs.declared.instruction.Instruction.{Instruction}
-use Rattle.abi_bindgen.specs.declared.instruction.Instruction.TheVariants.{CallInterface, CallWasm, GuestDeallocateVariant, OptionLift, OptionLower, ResultLift, ResultLower, Return, VariantLift, VariantLower}
+use Rattle.abi_bindgen.specs.declared.instruction.Instruction.TheVariants.{Bitcasts, CallInterface, CallWasm, GuestDeallocateVariant, OptionLift, OptionLower, ResultLift, ResultLower, Return, VariantLift, VariantLower}
 use Rattle.abi_bindgen.specs.Instructions.{block_results, lifted_scalar, lowered_scalar}
 use Rattle.abi_bindgen.specs.Sent.{Sent, sends}
 use Rattle.abi_bindgen.specs.Touches.{Touch, touch}
@@ -25,13 +25,13 @@ use Rattle.func_gen.specs.Emission.{Emission, Writes, effect, one_local}
 use Rattle.func_gen.specs.Forms.{operand_of}
 use Rattle.func_gen.specs.PartForms.{exprs_of, locals_of}
 use Rattle.func_gen.specs.Scope.{Takes, TakesOne}
-use Rattle.func_gen.specs.Formed.{Becomes, Formed, called, given_count, no_call}
+use Rattle.func_gen.specs.Formed.{Becomes, Formed, called, no_call, told_count}
 use Rattle.func_gen.specs.Still.{StillOf}
 
 -- 1. Steps that give nothing and call nothing
 
 pub record IsPlain (step : Sent) : Type 0 where
-  pub gives : given_count step ≡ None
+  pub gives : told_count step ≡ None
   pub calls : called step ≡ no_call
 
 -- an instruction of a scalar or of a word in memory is none of those whose code the table does not tell
@@ -39,6 +39,7 @@ is_plain : (i : Instruction) → (lowered_scalar i ≡ None → lifted_scalar i 
 is_plain (CallWasm f) none_of = absurd (none_of refl refl refl)
 is_plain (CallInterface f) none_of = absurd (none_of refl refl refl)
 is_plain (Return n) none_of = absurd (none_of refl refl refl)
+is_plain (Bitcasts casts) none_of = absurd (none_of refl refl refl)
 is_plain (VariantLower id n) none_of = absurd (none_of refl refl refl)
 is_plain (OptionLower id n) none_of = absurd (none_of refl refl refl)
 is_plain (ResultLower id n) none_of = absurd (none_of refl refl refl)

@@ -43,7 +43,7 @@ use Rattle.func_gen.specs.declared.operand.ExprOperand.{ExprOperand}
 use Rattle.func_gen.specs.CodeOf.{context, emitted}
 use Rattle.func_gen.specs.FactLemmas.{Says, follows, item_rust, kept_item, operand_reads, word_read}
 use Rattle.func_gen.specs.Facts.{wrong}
-use Rattle.func_gen.specs.Formed.{Becomes, Called, Formed, block_begins, block_ends, called, case_lifts, cases_free, cases_match, core_call, given_count, last_lifts, method_call, no_call}
+use Rattle.func_gen.specs.Formed.{Becomes, Called, Formed, block_begins, block_ends, called, case_lifts, cases_free, cases_match, core_call, last_lifts, method_call, no_call, told_count}
 use Rattle.func_gen.specs.Forms.{operand_of}
 use Rattle.func_gen.specs.Meaning.{Denote, File, FuncState, StandsAsItIs, account_of, func_meaning}
 use Rattle.func_gen.specs.PartForms.{exprs_of}
@@ -293,7 +293,7 @@ module _ (types : List TypeDef) (step : Sent) (os rs : List ExprOperand) (old ne
   becomes _ n h = absurd (let no = n in cc)
 
   form_plain : has_exprs (called step) ≡ true → Formed types step (plain os) rs old new → Formed types step os rs old new
-  form_plain n h = record { still = h.still; given = subst (λ k. IfSome (given_count step) (λ m. k ≡ m)) (plain_many os) h.given; code = becomes (called step) n h.code }
+  form_plain n h = record { still = h.still; given = subst (λ k. IfSome (told_count step) (λ m. k ≡ m)) (plain_many os) h.given; code = becomes (called step) n h.code }
 
 -- 6. What is emitted
 

@@ -7,7 +7,7 @@ use Rattle.wit_model.specs.declared.wasm_type.WasmType.{WasmType}
 use Rattle.rust_tree.specs.declared.expr.Expr.{Expr}
 use Rattle.rust_tree.specs.declared.stmt.Stmt.{Stmt}
 use Rattle.wit_model.specs.Bytes.{Bytes}
-use Rattle.abi_bindgen.specs.declared.instruction.Instruction.TheVariants.{CallInterface, CallWasm, GuestDeallocateVariant, OptionLift, OptionLower, ResultLift, ResultLower, Return, VariantLift, VariantLower}
+use Rattle.abi_bindgen.specs.declared.instruction.Instruction.TheVariants.{Bitcasts, CallInterface, CallWasm, GuestDeallocateVariant, OptionLift, OptionLower, ResultLift, ResultLower, Return, VariantLift, VariantLower}
 use Rattle.abi_bindgen.specs.Calls.{import_params, import_results}
 use Rattle.abi_bindgen.specs.Sent.{Sent, closes, opens, sends}
 use Rattle.func_gen.specs.declared.case_form.CaseForm.{CaseForm}
@@ -26,10 +26,11 @@ use Rattle.func_gen.specs.Scope.{Takes}
 use Rattle.func_gen.specs.Slot.{block_names}
 use Rattle.func_gen.specs.Still.{StillOf}
 
--- how many operands a step gives as what the code gives
-abbrev pub given_count : Sent → Option ℕ
-given_count (sends (Return n)) = Some n
-given_count _ = None
+-- how many operands a step has, where its form tells: those that the code gives, and words that are cast
+abbrev pub told_count : Sent → Option ℕ
+told_count (sends (Return n)) = Some n
+told_count (sends (Bitcasts casts)) = Some (length casts.now)
+told_count _ = None
 
 -- what a step calls, where it calls something
 pub data Called : Type 0 where
@@ -162,5 +163,5 @@ Becomes types (cases_free n) step os rs old new = FreesCases n os rs old new
 
 pub record Formed (types : List TypeDef) (step : Sent) (os rs : List ExprOperand) (old new : FunctionBindgen) : Type 0 where
   pub still : StillOf old new
-  pub given : IfSome (given_count step) (λ n. length os ≡ n)
+  pub given : IfSome (told_count step) (λ n. length os ≡ n)
   pub code : Becomes types (called step) step os rs old new

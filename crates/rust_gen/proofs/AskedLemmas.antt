@@ -1,9 +1,9 @@
 -- An item of `_rt` that a file's items name is found in the file.
-use Rattle.std.proofs.Common.{◌≡◌, ℕ, zero, suc, Bool, true, false, cond, ◌||◌, List, [], ◌∷◌, ◌++◌, None, Some, ◌⊎◌, inl, inr, refl, sym, ap, subst, ◌∙◌, append-nil, arith}
+use Rattle.std.proofs.Common.{◌≡◌, ℕ, zero, suc, Bool, true, false, cond, ◌||◌, List, [], ◌∷◌, ◌++◌, None, Some, ◌⊎◌, inl, inr, refl, sym, ap, subst, ◌∙◌, arith}
 use Rattle.std.specs.Prelude.{find, fold, slice_get}
-use Rattle.std.specs.List.{Contains, flat_map, list_all, list_any}
+use Rattle.std.specs.List.{Contains, flat_map, list_any}
 use Rattle.std.specs.Str.{bytes_eq}
-use Rattle.std.proofs.lemmas.Bool.{and_parts, or_cases, or_left, or_right}
+use Rattle.std.proofs.lemmas.Bool.{or_cases, or_left, or_right}
 use Rattle.std.proofs.lemmas.List.Folds.{list_any-append}
 use Rattle.std.proofs.lemmas.Grind.{flat_map-append}
 use Rattle.rust_tree.specs.declared.item.Item.{Item}
@@ -14,7 +14,6 @@ use Rattle.wrapper_run.specs.Run.{runtime_item_named}
 use Rattle.rust_tree.specs.Asked.{asked_by_block, asked_by_export, asked_by_item, asked_in}
 use Rattle.rust_tree.specs.declared.export.PostReturnFn.{PostReturnFn}
 use Rattle.func_gen.specs.Meaning as bodies
-use Rattle.rust_gen.specs.Body.{is_among, names_what_it_asks}
 use Rattle.rust_gen.specs.Bound.{Parts, export_items}
 use Rattle.rust_gen.specs.Runtime.{is_same_item, runtime_module, with_asked, with_needed}
 use Rattle.rust_gen.specs.Served.{Serves, asked_for}
@@ -194,12 +193,7 @@ found-return items (e, Some q, a) p is h =
     subst (λ q. Found items (asked_by_block q.body)) same (found-left items (asked_by_block q.body) [] (found-right items (asked_by_export e) (asked_by_block q.body ++ []) h))
 
 -- what a body asks for, where its item names it
-pub found-asked : (items : List Item) (i : Item) (runtime : List RuntimeItem) → names_what_it_asks i runtime ≡ true → Found items (asked_by_item i) → bodies.Found items runtime
-found-asked items i runtime h f =
-    each runtime h (subst (Found items) (sym (append-nil (asked_by_item i))) f)
-  where
-    each : (runtime : List RuntimeItem) → list_all (is_among (asked_in (i ∷ []))) runtime ≡ true → Found items (asked_in (i ∷ [])) → bodies.Found items runtime
-    each [] named f = tt
-    each (r ∷ runtime) named f =
-        let parts = and_parts (is_among (asked_in (i ∷ [])) r) (list_all (is_among (asked_in (i ∷ []))) runtime) named in
-        (f r parts.0, each runtime parts.1 f)
+pub found-asked : (items : List Item) (named runtime : List RuntimeItem) → ((x : RuntimeItem) → IsAmong x runtime → IsAmong x named) → Found items named → bodies.Found items runtime
+found-asked items named [] h f = tt
+found-asked items named (r ∷ runtime) h f =
+    (f r (h r (or_left (is_same_item r r) _ (same-refl r))), found-asked items named runtime (λ x k. h x (or_right (is_same_item r x) _ k)) f)

@@ -26,7 +26,7 @@ use Rattle.rust_tree.specs.declared.runtime_item.RuntimeItem.{RuntimeItem}
 use Rattle.rust_tree.specs.declared.trait_item.TraitFn.{TraitFn}
 use Rattle.rust_tree.specs.declared.type_expr.TypeExpr.TheVariants as type
 use Rattle.rust_tree.specs.declared.type_item.TypeItem.{TypeItem}
-use Rattle.rust_tree.specs.Asked.{asked_by_item, asked_in}
+use Rattle.rust_tree.specs.Asked.{asked_by_block, asked_by_export, asked_by_fn, asked_by_item, asked_in}
 use Rattle.rust_tree.specs.Ident.{rust_ident}
 use Rattle.rust_tree.specs.Runtime.{item_name}
 use Rattle.rust_tree.specs.Tree.{Tree, wrapper_info, wrappers_from, wrappers_of}
@@ -88,6 +88,7 @@ use Rattle.rust_gen.specs.Known.{IsKnown}
 use Rattle.rust_gen.specs.Faithful.{AreFaithful, export_names, import_target}
 use Rattle.rust_gen.specs.Runtime.{runtime_module}
 use Rattle.rust_gen.specs.Wrapper.{printed_param, root_module}
+use Rattle.rust_gen.proofs.AskedItems.{export-asked, import-asked, return-asked}
 use Rattle.rust_gen.proofs.AskedLemmas.{Found, found-asked, found-at, found-export, found-parts, found-return, found-wrapper, found_all}
 use Rattle.rust_gen.proofs.EntryLemmas.{alone-return, alone-wrapper, wit-forms}
 use Rattle.rust_gen.proofs.ItemLemmas.{alone-named, area-found, distinct-image, entries-are, find-named, method-found, runtime-found}
@@ -383,7 +384,7 @@ module _ (opts : Opts) (resolve : Resolve) (id : WorldId) (world : World) (known
               ap (map (λ p. p.name)) w.outside.params ∙ map-map (λ p. p.name) (printed_param types) f.params ∙ sym (map-map (λ p. p.name) import_site f.params)
               ∙ ap (λ g. map (λ p. p.name) (map import_site g.params)) (sym w.of) ∙ ap (map (λ p. p.name)) (sym code.made_of.params);
           block = code.is;
-          runtime = subst (bodies.Found tree.items) code.asks (found-asked tree.items (item.Import wrapper.0) wrapper.2.runtime wrapper.2.names asks-import);
+          runtime = subst (bodies.Found tree.items) code.asks (found-asked tree.items (asked_by_fn wrapper.0) wrapper.2.runtime (import-asked types sites f wrapper.0 wrapper.2.runtime wrapper.2.made) asks-import);
           sites = sites-defined code.parts.tables.now.sites code.made_of.written;
           answers =
               subst (λ ty. AnswersAs tree.items ty (result_shape types w.func.now)) (ap (λ g. printed_result types g.result) w.of ∙ sym w.outside.answer)
@@ -548,7 +549,7 @@ module _ (opts : Opts) (resolve : Resolve) (id : WorldId) (world : World) (known
           ap arg_names w.made.outside.params ∙ sym (named_so (arg_names (return_args (passed types f)))) ∙ ap site_names (sym w.made.code.made_of.params);
       pinned = ap arg_types w.made.outside.params ∙ types_of_args 0 (result_types (passed types f));
       block = w.made.code.is;
-      runtime = subst (bodies.Found tree.items) w.made.code.asks (found-asked tree.items (item.PostReturn p) w.runtime w.names (found-return tree.items parts.0 p is asked-parts));
+      runtime = subst (bodies.Found tree.items) w.made.code.asks (found-asked tree.items (asked_by_block p.body) w.runtime (return-asked types sites f p w.runtime w.made) (found-return tree.items parts.0 p is asked-parts));
       sites = sites-defined w.made.code.parts.tables.now.sites w.made.code.made_of.written;
       sized = shared_sized results (result_shape types f) tree shared;
       result = result-direct f uses-here;
@@ -619,7 +620,7 @@ module _ (opts : Opts) (resolve : Resolve) (id : WorldId) (world : World) (known
               ∙ ap site_names (sym code.made_of.params);
           signature = subst (λ g. HasCoreSignature (passed types g) export) (sym w.of) signature-is;
           block = code.is.rest;
-          runtime = subst (bodies.Found tree.items) code.is.asks (found-asked tree.items (item.Export export) written.runtime written.names asks-export);
+          runtime = subst (bodies.Found tree.items) code.is.asks (found-asked tree.items (asked_by_export export) written.runtime (export-asked types sites f export _ written.runtime written.made) asks-export);
           sites = sites-defined code.parts.tables.now.sites code.made_of.written;
           called = gives-as_called;
           area = subst (λ g. SharesArea results (result_shape types g) tree) (sym w.of) shared;

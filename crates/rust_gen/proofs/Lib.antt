@@ -1,3 +1,4 @@
+pub mod AskedItems
 pub mod AskedLemmas
 mod EntryLemmas
 mod FaithfulLemmas

@@ -1,7 +1,7 @@
 -- What the items of a file ask for in order is what they name, and what is asked so is served.
 use Rattle.std.proofs.Common.{◌≡◌, Bool, true, false, List, [], ◌∷◌, ◌++◌, Option, ◌⊎◌, inl, inr, map, sym, ap, ap₂, subst, ◌∙◌, append-nil, append_assoc}
-use Rattle.std.specs.List.{AllZip, flat_map, list_all, list_any}
-use Rattle.std.proofs.lemmas.Bool.{and_parts, or_cases, or_left, or_right}
+use Rattle.std.specs.List.{AllZip, flat_map, list_any}
+use Rattle.std.proofs.lemmas.Bool.{or_cases, or_left, or_right}
 use Rattle.std.proofs.lemmas.List.{map-append}
 use Rattle.std.proofs.lemmas.List.Folds.{list_any-append}
 use Rattle.std.proofs.lemmas.Grind.{flat_map-append}
@@ -19,12 +19,13 @@ use Rattle.gen_accept.specs.Area.{needs_return}
 use Rattle.gen_accept.specs.Emitted.{exported_functions, imported_functions}
 use Rattle.func_gen.specs.declared.type_site.TypeSite.{TypeSite}
 use Rattle.rust_gen.specs.Asking.{ExportAsks, ImportAsks, ReturnAsks, asked_order, asked_with, asking_items, bare}
-use Rattle.rust_gen.specs.Body.{ArePartsWritten, IsWritten, ReturnWritten, is_among, names_what_it_asks}
+use Rattle.rust_gen.specs.Body.{ArePartsWritten, IsWritten, ReturnWritten}
 use Rattle.rust_gen.specs.Bound.{Parts, area_of, export_items, return_items}
 use Rattle.rust_gen.specs.Exported.{trait_and_macro}
 use Rattle.rust_gen.specs.Runtime.{is_same_item, runtime_items}
 use Rattle.rust_gen.specs.Served.{Serves}
-use Rattle.rust_gen.proofs.AskedLemmas.{IsAmong, is-same}
+use Rattle.rust_gen.proofs.AskedItems.{export-asked, import-asked, return-asked}
+use Rattle.rust_gen.proofs.AskedLemmas.{IsAmong}
 use Rattle.rust_gen.proofs.ServedLemmas.{serves-items, serves-same}
 
 -- among two lists behind one another
@@ -46,21 +47,6 @@ asked-left x is js h = subst (IsAmong x) (sym (flat_map-append asked_by_item is 
 asked-right : (x : RuntimeItem) (is js : List Item) → IsAmong x (asked_in js) → IsAmong x (asked_in (is ++ js))
 asked-right x is js h = subst (IsAmong x) (sym (flat_map-append asked_by_item is js)) (among-right x (asked_in is) (asked_in js) h)
 
--- what a body asks for, its item names
-
-all-among : (x : RuntimeItem) (xs ys : List RuntimeItem) → list_all (is_among ys) xs ≡ true → IsAmong x xs → IsAmong x ys
-all-among x [] ys h k = absurd (cc)
-all-among x (y ∷ xs) ys h k =
-    let parts = and_parts (is_among ys y) (list_all (is_among ys) xs) h in
-    go parts.0 (all-among x xs ys parts.1) (or_cases (is_same_item y x) _ k)
-  where
-    go : IsAmong y ys → (IsAmong x xs → IsAmong x ys) → (is_same_item y x ≡ true) ⊎ IsAmong x xs → IsAmong x ys
-    go here later (inl e) = subst (λ z. IsAmong z ys) (is-same y x e) here
-    go here later (inr k) = later k
-
-asked-among : (i : Item) (runtime : List RuntimeItem) → names_what_it_asks i runtime ≡ true → (x : RuntimeItem) → IsAmong x runtime → IsAmong x (asked_by_item i)
-asked-among i runtime h x k = subst (IsAmong x) (append-nil (asked_by_item i)) (all-among x runtime (asked_in (i ∷ [])) h k)
-
 module _ (types : List TypeDef) (sites : List (Option TypeSite)) where
   import-among : (f : Function) (i : FnItem × List RuntimeItem) → ImportAsks types sites f i → (x : RuntimeItem) → IsAmong x i.1 → IsAmong x (asked_by_fn i.0)
   import-among f i a x h = go (among-split x named a.0.runtime (subst (IsAmong x) a.1 h))
@@ -70,7 +56,7 @@ module _ (types : List TypeDef) (sites : List (Option TypeSite)) where
 
       go : IsAmong x named ⊎ IsAmong x a.0.runtime → IsAmong x (asked_by_fn i.0)
       go (inl k) = among-left x named (asked_by_block i.0.body) k
-      go (inr k) = asked-among (item.Import i.0) a.0.runtime a.0.names x k
+      go (inr k) = import-asked types sites f i.0 a.0.runtime a.0.made x k
 
   imports-among : (fs : List Function) (is : List (FnItem × List RuntimeItem)) → AllZip (ImportAsks types sites) fs is → (x : RuntimeItem) → IsAmong x (asked_with is) → IsAmong x (asked_in (map item.Import (bare is)))
   imports-among [] [] z x h = h
@@ -84,14 +70,14 @@ module _ (types : List TypeDef) (sites : List (Option TypeSite)) where
 
   return-among : (b : Bool) (f : Function) (p : Option PostReturnFn) (asked : List RuntimeItem) → ReturnAsks types sites b f p asked → (x : RuntimeItem) → IsAmong x asked → IsAmong x (asked_in (return_items p))
   return-among true f p asked (q, is, w, e) x h =
-      subst (λ p. IsAmong x (asked_in (return_items p))) (sym is) (among-left x (asked_by_block q.body) [] (asked-among (item.PostReturn q) w.runtime w.names x (subst (IsAmong x) e h)))
+      subst (λ p. IsAmong x (asked_in (return_items p))) (sym is) (among-left x (asked_by_block q.body) [] (return-asked types sites f q w.runtime w.made x (subst (IsAmong x) e h)))
   return-among false f p asked (is, e) x h = let none : IsAmong x [] = subst (IsAmong x) e h in absurd (cc)
 
   export-among : (f : Function) (e : Parts × List RuntimeItem) → ExportAsks types sites f e → (x : RuntimeItem) → IsAmong x e.1 → IsAmong x (asked_in (export_items e.0))
   export-among f ((w, p, area), asked) (own, returning, is, wrapper, back) x h = go (among-split x own returning (subst (IsAmong x) is h))
     where
       go : IsAmong x own ⊎ IsAmong x returning → IsAmong x (asked_in (export_items (w, p, area)))
-      go (inl k) = among-left x (asked_by_export w) (asked_in (return_items p)) (asked-among (item.Export w) wrapper.0.runtime wrapper.0.names x (subst (IsAmong x) wrapper.1 k))
+      go (inl k) = among-left x (asked_by_export w) (asked_in (return_items p)) (export-asked types sites f w area wrapper.0.runtime wrapper.0.made x (subst (IsAmong x) wrapper.1 k))
       go (inr k) = among-right x (asked_by_export w) (asked_in (return_items p)) (return-among (needs_return types f) f p returning back x k)
 
   exports-among : (fs : List Function) (es : List (Parts × List RuntimeItem)) → AllZip (ExportAsks types sites) fs es → (x : RuntimeItem) → IsAmong x (asked_with es) → IsAmong x (asked_in (flat_map export_items (bare es)))

@@ -50,15 +50,6 @@ at-loop P [] all i f inside is = absurd (omega (inside, arith))
 at-loop P (g ∷ fs) all zero f inside is = subst (λ x. P x.now) (sym is) (all 0 g.now refl)
 at-loop P (g ∷ fs) all (suc i) f inside is = at-loop P fs (λ nth. all (suc nth)) i f (omega (inside, arith)) is
 
--- the item that was put behind others stands there
-pub pushed-at : (items new : List Item) (at : ℕ) (x i : Item) → new ≡ items ++ x ∷ [] → at ≡ length items → slice_get new at ≡ Some i → i ≡ x
-pushed-at items new at x i is place e =
-    let there : Some i ≡ Some x = sym e ∙ ap₂ slice_get is place ∙ last items in cc
-  where
-    last : (items : List Item) → slice_get (items ++ x ∷ []) (length items) ≡ Some x
-    last [] = refl
-    last (y ∷ items) = last items
-
 -- how many wrappers there are
 
 wrapper_count-append : (xs ys : List Item) → wrapper_count (xs ++ ys) ≡ wrapper_count xs + wrapper_count ys

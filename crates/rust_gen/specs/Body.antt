@@ -1,7 +1,6 @@
 -- How wrappers are written: as they look from outside, with the bodies that the driver's code for their functions is.
 use Rattle.std.specs.Borrow.{Bor}
-use Rattle.std.specs.Prelude.{◌≡◌, Bool, true, false, List, [], ◌∷◌, Option, None, Some, is_some, map}
-use Rattle.std.specs.List.{list_all, list_any}
+use Rattle.std.specs.Prelude.{◌≡◌, Bool, true, false, List, Option, None, Some, is_some, map}
 use Rattle.wit_model.specs.Bytes.{Bytes}
 use Rattle.wit_model.specs.declared.function.Function.{Function}
 use Rattle.wit_model.specs.declared.function.Param.{Param}
@@ -15,11 +14,8 @@ use Rattle.rust_tree.specs.declared.export.PostReturnFn.{PostReturnFn}
 use Rattle.rust_tree.specs.declared.expr.Expr.{Expr}
 use Rattle.rust_tree.specs.declared.expr.Expr.TheVariants as expr
 use Rattle.rust_tree.specs.declared.item.FnItem.{FnItem}
-use Rattle.rust_tree.specs.declared.item.Item.{Item}
-use Rattle.rust_tree.specs.declared.item.Item.TheVariants as item
 use Rattle.rust_tree.specs.declared.runtime_item.RuntimeItem.{RuntimeItem}
 use Rattle.rust_tree.specs.declared.stmt.Block.{Block}
-use Rattle.rust_tree.specs.Asked.{asked_in}
 use Rattle.rust_tree.specs.Ident.{rust_ident}
 use Rattle.gen_accept.specs.Area.{needs_return}
 use Rattle.gen_accept.specs.DeclaredNames.{guest_name, param_idents}
@@ -36,7 +32,6 @@ use Rattle.wrapper_closing.specs.Params.{arg_names, cleanup_list, export_args, l
 use Rattle.wrapper_closing.specs.Parts.{AreParts}
 use Rattle.wrapper_closing.specs.declared.parts.BodyParts.{BodyParts}
 use Rattle.rust_gen.specs.FixedName.{IsFixedName}
-use Rattle.rust_gen.specs.Runtime.{is_same_item}
 use Rattle.type_defs.specs.PartType.{printed_result}
 use Rattle.rust_gen.specs.Wrapper.{export_result, printed_param, root_module}
 use Rattle.rust_gen.specs.declared.export.ExportCode.{ExportCode}
@@ -76,14 +71,6 @@ pub record AreExportParts (types : List TypeDef) (sites : List (Option TypeSite)
 
 -- 2. What each item is
 
--- an item of `_rt` among others
-abbrev pub is_among : List RuntimeItem → RuntimeItem → Bool
-is_among items asked = list_any (λ i. is_same_item i asked) items
-
--- an item names each item of `_rt` that its body asks for
-abbrev pub names_what_it_asks : Item → List RuntimeItem → Bool
-names_what_it_asks i runtime = list_all (is_among (asked_in (i ∷ []))) runtime
-
 -- the block of an import's body, and what that asks for of `_rt`
 pub record IsImportCode (types : List TypeDef) (sites : List (Option TypeSite)) (func : Bor Function) (block : Block) (runtime : List RuntimeItem) : Type 0 where
   pub parts : BodyParts
@@ -117,7 +104,6 @@ pub record IsImportMade (types : List TypeDef) (sites : List (Option TypeSite)) 
 pub record IsWritten (types : List TypeDef) (sites : List (Option TypeSite)) (f : Function) (wrapper : FnItem) : Type 0 where
   pub runtime : List RuntimeItem
   pub made : IsImportMade types sites f wrapper runtime
-  pub names : names_what_it_asks (item.Import wrapper) runtime ≡ true
 
 -- the call block of a body, what stands behind it, the area that they need, and what they ask for of `_rt`
 pub record IsCodeOf (body : Body) (code : ExportCode) : Type 0 where
@@ -157,7 +143,6 @@ pub record IsExportMade (types : List TypeDef) (sites : List (Option TypeSite)) 
 pub record IsExportWritten (types : List TypeDef) (sites : List (Option TypeSite)) (f : Function) (wrapper : ExportFn) (area : Option Asked) : Type 0 where
   pub runtime : List RuntimeItem
   pub made : IsExportMade types sites f (record { wrapper = wrapper; area = area; runtime = runtime })
-  pub names : names_what_it_asks (item.Export wrapper) runtime ≡ true
 
 -- the same of a post-return function, which has no call block and needs no area
 pub record IsReturnCode (types : List TypeDef) (sites : List (Option TypeSite)) (f : Function) (block : Block) (runtime : List RuntimeItem) : Type 0 where
@@ -181,7 +166,6 @@ pub record IsReturnMade (types : List TypeDef) (sites : List (Option TypeSite)) 
 pub record IsReturnWritten (types : List TypeDef) (sites : List (Option TypeSite)) (f : Function) (function : PostReturnFn) : Type 0 where
   pub runtime : List RuntimeItem
   pub made : IsReturnMade types sites f function runtime
-  pub names : names_what_it_asks (item.PostReturn function) runtime ≡ true
 
 -- an export's wrapper, its post-return function where its result may hold a text, and the area that it needs
 

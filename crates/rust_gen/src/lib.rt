@@ -11,7 +11,6 @@ mod post_return;
 mod runtime;
 mod signature;
 mod sites;
-mod sound;
 mod tables;
 mod tree;
 mod wrappers;

@@ -1,10 +1,9 @@
 //! Which items the module `_rt` holds.
 
 ghost use Rattle.std.specs.Prelude.{◌≡◌, ◌++◌, IfOk, OnOk, fold};
-ghost use Rattle.std.specs.List.{flat_map, list_all, list_any};
+ghost use Rattle.std.specs.List.{flat_map, list_any};
 ghost use Rattle.rust_tree.specs.Asked.{asked_in};
 ghost use Rattle.rust_tree.specs.Runtime.{needed_items};
-ghost use Rattle.rust_gen.specs.Body.{is_among};
 ghost use Rattle.rust_gen.specs.Runtime.{is_same_item, runtime_items, runtime_module, with_asked, with_needed};
 
 use rust_tree::{Item, RuntimeItem, asked_in};
@@ -36,13 +35,6 @@ fn is_asked(items: &[RuntimeItem], asked: RuntimeItem) -> bool
     ensures { result ≡ list_any (λ i. is_same_item i asked) items.now }
 {
     items.iter().any(|item| is_same_item(*item, asked))
-}
-
-/// Whether all of some items are among others.
-pub(crate) fn are_asked(items: &[RuntimeItem], asked: &[RuntimeItem]) -> bool
-    ensures { result ≡ list_all (is_among items.now) asked.now }
-{
-    asked.iter().all(|i| is_asked(items, *i))
 }
 
 fn ask(items: &mut List<RuntimeItem>, asked: RuntimeItem) -> Result<(), OutOfMemory>

@@ -30,7 +30,6 @@ ghost use Rattle.rust_gen.specs.Wrapper.{printed_param};
 use crate::export::{ExportMade, export_wrapper};
 use crate::import::{import_wrapper, outside_items};
 use crate::post_return::post_return;
-use crate::sound::test_at;
 use crate::tables::type_tables;
 use abi_bindgen::Asked;
 use func_gen::TypeTables;
@@ -80,9 +79,7 @@ fn push_import(
 {
     ask_by_signature(alloc, resolve, facts, asked, f)?;
     let (wrapper, runtime) = import_wrapper(alloc, resolve, facts, tables, f)?;
-    let at = items.len();
     items.push(Item::Import(wrapper))?;
-    test_at(alloc, items.as_slice(), at, runtime.as_slice())?;
     asked.extend_from_slice(runtime.as_slice())?;
     Ok(())
 }
@@ -135,9 +132,7 @@ fn push_wrapper(
         area,
         runtime,
     } = export_wrapper(alloc, resolve, tables, f)?;
-    let at = items.len();
     items.push(Item::Export(wrapper))?;
-    test_at(alloc, items.as_slice(), at, runtime.as_slice())?;
     asked.extend_from_slice(runtime.as_slice())?;
     Ok(area)
 }
@@ -160,9 +155,7 @@ fn push_returning(
         ((p : Option PostReturnFn × List RuntimeItem) × (items.new ≡ items.old ++ return_items p.0) × (asked.new ≡ asked.old ++ p.1) × ReturnAsks resolve.now.types tables.now.sites true f.now p.0 p.1) }
 {
     let (function, runtime) = post_return(alloc, resolve, tables, f)?;
-    let at = items.len();
     items.push(Item::PostReturn(function))?;
-    test_at(alloc, items.as_slice(), at, runtime.as_slice())?;
     asked.extend_from_slice(runtime.as_slice())?;
     Ok(())
 }

@@ -2,6 +2,12 @@ pub mod AnswerHeap
 pub mod AreaRoom
 pub mod Args
 pub mod Arguments
+pub mod AskedBodies
+pub mod AskedEmissions
+pub mod AskedFlows
+pub mod AskedForms
+pub mod AskedMatches
+pub mod AskedSteps
 pub mod BodyAreas
 pub mod CallsKept
 pub mod CaseInstances
@@ -54,4 +60,5 @@ pub mod TypedCases
 pub mod Unasking
 pub mod Undeclared
 pub mod Unplaced
+pub mod Within
 pub mod WrittenParts
