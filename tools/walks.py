@@ -37,26 +37,29 @@ def files_of(root):
                             yield os.path.relpath(path, os.path.join(root, "crates")), file.read()
 
 
-def names_form(path, text, enum, form):
-    """Whether a file names a form: in code as `Expr::Form`, elsewhere as a variant, as a layer of a fold, or by an import."""
+def forms_named(path, text, enum):
+    """What a file names of an enum: in code behind `Expr::`, elsewhere as a variant, as a layer of a fold, or by an import."""
     if path.endswith(".rt"):
-        return path == ENUMS[enum] or re.search(rf"\b{enum}::{form}\b", text) is not None
-    shorts = re.findall(rf"\.{enum}\.TheVariants as (\w+)", text)
-    if any(re.search(rf"(?<![\w-]){short}\.{form}\b", text) for short in [*shorts, f"{enum}-F"]):
-        return True
+        return set(re.findall(rf"\b{enum}::(\w+)", text))
+    shorts = [*re.findall(rf"\.{enum}\.TheVariants as (\w+)", text), f"{enum}-F"]
+    found = {form for short in shorts for form in re.findall(rf"(?<![\w-]){short}\.(\w+)", text)}
     imported = re.search(rf"\.{enum}\.TheVariants\.\{{([^}}]*)\}}", text)
-    return imported is not None and form in re.split(r"[,\s]+(?:rolls-)?|^rolls-", imported.group(1))
+    names = imported.group(1).split(",") if imported else []
+    return found | {name.strip().removeprefix("rolls-") for name in names}
 
 
 def table(root):
-    """For each enum, its variants with the files that name each."""
+    """For each enum, its variants with the files that name each. The file that declares one names it."""
     files = list(files_of(root))
     found = {}
     for enum, path in ENUMS.items():
-        text = next(text for name, text in files if name == path)
-        found[enum] = {
-            form: [name for name, body in files if names_form(name, body, enum, form)] for form in variants_of(text, enum)
-        }
+        forms = variants_of(next(text for name, text in files if name == path), enum)
+        found[enum] = {form: [] for form in forms}
+        for name, text in files:
+            named = set(forms) if name == path else forms_named(name, text, enum)
+            for form in forms:
+                if form in named:
+                    found[enum][form].append(name)
     return found
 
 
