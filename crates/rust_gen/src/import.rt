@@ -93,7 +93,8 @@ fn import_code(
     let parts = import_parts(alloc, resolve, tables, f)?;
     let area = parts.area.copy(alloc)?;
     let body = import_body(alloc, resolve, f, parts)?;
-    import_block(alloc, area, body)
+    let made = import_block(alloc, area, body)?;
+    Ok(made)
 }
 
 fn import_head(

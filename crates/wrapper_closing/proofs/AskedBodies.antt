@@ -32,6 +32,7 @@ use Rattle.func_gen.specs.Body.{Gives, IsBodyOf}
 use Rattle.func_gen.specs.Meaning.{func_meaning}
 use Rattle.func_gen.specs.Sites.{IsSite}
 use Rattle.func_gen.proofs.StillFlows.{still_flows}
+use Rattle.wrapper_closing.specs.AskedLaws.{ExportBodyNamesAsked, ImportBodyNamesAsked, PostReturnBodyNamesAsked}
 use Rattle.wrapper_closing.specs.Bodies.{MakesExport, MakesImport, MakesPostReturn}
 use Rattle.wrapper_closing.specs.ImportBlock.{block_of, local_area}
 use Rattle.wrapper_closing.specs.Parts.{AreParts, IsMadeFrom}
@@ -103,6 +104,7 @@ module _ (types : List TypeDef) (func : Bor Function) (parts : BodyParts) (body 
   abbrev before : Flow
   before = both (pass_code types (map (λ p. p.ty) func.now.params)) (point_code types func.now.result)
 
+  -- what the words that are passed name, the call names, and what is read behind it converts nothing
   import_within : Within body.runtime (body_named body)
   import_within =
       let tys : List WitType = map (λ (p : Param). p.ty) func.now.params in
@@ -128,7 +130,7 @@ module _ (types : List TypeDef) (func : Bor Function) (parts : BodyParts) (body 
       let plain_last = still_plain next last (still_flows types read answer given next last from_there) plain_next in
       body_names types _ m.old last m.new given [] body plain_last ends m.body_of all m.made.unnamed (closed_still types code [] [] m.old m.new m.flows m.made.closed) (none_finished m.old m.new m.calls.blocks m.made.unfinished)
 
-  pub import_names : AllIn (asked_by_block (block_of parts.area body)) body.runtime
+  import_names : AllIn (asked_by_block (block_of parts.area body)) body.runtime
   import_names =
       let area = local_area parts.area body.area in
       let tail = asked_by_tail body.tail in
@@ -143,6 +145,7 @@ module _ (types : List TypeDef) (func : Bor Function) (parts : BodyParts) (body 
 -- 4. An export
 
 module _ (types : List TypeDef) (func : Bor Function) (parts : BodyParts) (body : Body) (are : AreParts types parts) (m : MakesExport types func parts body) where
+  -- what is taken converts nothing, and what is given of the answer stands last
   export_within : Within body.runtime (body_named body)
   export_within =
       let tys : List WitType = map (λ (p : Param). p.ty) func.now.params in
@@ -161,7 +164,7 @@ module _ (types : List TypeDef) (func : Bor Function) (parts : BodyParts) (body 
       let plain_last = still_plain called last (still_flows types give answer given called last answers) plain_called in
       body_names types _ m.old last m.new given [] body plain_last ends m.body_of all m.made.unnamed (closed_still types code [] [] m.old m.new m.flows m.made.closed) (none_finished m.old m.new m.calls.blocks m.made.unfinished)
 
-  pub export_names : (call : CallBlock) → body.call ≡ Some call → AllIn (asked_by_call call ++ asked_by_block (code_of body.stmts body.tail)) body.runtime
+  export_names : (call : CallBlock) → body.call ≡ Some call → AllIn (asked_by_call call ++ asked_by_block (code_of body.stmts body.tail)) body.runtime
   export_names call is =
       let rest = stmts_named body.stmts ++ asked_by_tail body.tail in
       let named : asked_by_call call ++ asked_by_block (code_of body.stmts body.tail) ≡ body_named body = ap₂ (λ (x y : Items). x ++ y) (sym (ap call_named is)) (code_named body.stmts body.tail) in
@@ -184,10 +187,21 @@ module _ (types : List TypeDef) (f : Function) (parts : BodyParts) (body : Body)
       let plain_last = still_plain m.old last (still_flows types free [] given m.old last frees) plain in
       body_names types 0 m.old last m.new given [] body plain_last ends m.body_of freed m.made.unnamed (closed_still types code [] [] m.old m.new m.flows m.made.closed) (none_finished m.old m.new m.frees.adds.blocks m.made.unfinished)
 
-  pub post_return_names : AllIn (asked_by_block (code_of body.stmts body.tail)) body.runtime
+  post_return_names : AllIn (asked_by_block (code_of body.stmts body.tail)) body.runtime
   post_return_names =
       let rest = stmts_named body.stmts ++ asked_by_tail body.tail in
       all_in body.runtime (asked_by_block (code_of body.stmts body.tail))
       (within_then post_return_within
       (within_both (call_named body.call) rest (within_from (call_named body.call) [] (ap call_named m.headless) (within_none _))
       (within_as rest (asked_by_block (code_of body.stmts body.tail)) (sym (code_named body.stmts body.tail)))))
+
+-- 6. All of it
+
+pub import_body_asks : ImportBodyNamesAsked
+import_body_asks types func parts body are m = import_names types func parts body are m
+
+pub export_body_asks : ExportBodyNamesAsked
+export_body_asks types func parts body call are m is = export_names types func parts body are m call is
+
+pub post_return_body_asks : PostReturnBodyNamesAsked
+post_return_body_asks types f parts body are m = post_return_names types f parts body are m

@@ -202,7 +202,7 @@ told_named b ps (sends (RecordLift id)) es = for_each _ _ (record_at b.sites id.
 told_named b ps (sends (EnumLower id)) (a ∷ []) = λ t. kept _ a _ (named-number a)
 told_named b ps (sends (EnumLift id)) (a ∷ []) = enums_lifted _ _ a (enum_at b.sites id.0)
 told_named b ps (sends (FlagsLower id)) (a ∷ []) = for_each _ _ (flags_at b.sites id.0) (lowers_flags a) (λ s t. bare _ _ _ _ _ (bits_named _ 0 _))
-told_named b ps (sends (FlagsLift id)) es = for_each _ _ (flags_at b.sites id.0) (lifts_flags es) (λ s t. a_local _ _ _ _ _)
+told_named b ps (sends (FlagsLift id)) (w ∷ es) = for_each _ _ (flags_at b.sites id.0) (lifts_flags (w ∷ es)) (λ s t. a_local _ _ _ _ _)
 told_named b ps (sends (TupleLower n)) (a ∷ []) = λ t. bare _ _ _ _ _ (locals_named (names_from part_prefix t 0 n))
 told_named b ps (sends (TupleLift n)) es = λ t. a_local _ _ _ _ _
 told_named b ps (sends (StringLower false)) (a ∷ []) = λ t. two_words _ _ _ _ _ _
@@ -247,6 +247,7 @@ cast_spent true slot e =
     within_left (one ++ (two ++ [])) (asked_by_expr (expr.Local slot)) (within_right one (two ++ []) (within_left two [] (within_as (asked_by_expr e) two (sym (write_named slot e)))))
 cast_spent false slot e = within_self (asked_by_expr e)
 
+-- each cast has its operand, in a statement where it needs a slot, and else in its result
 pub casts_spent : (at : ℕ) (cs : List Bitcast) (es : List Expr) (t : ℕ) → length es ≡ length cs → Within (exprs_named es) (stmts_named (stmts_from at cs es t) ++ exprs_named (casts_from at cs es t))
 casts_spent at [] [] t h = within_none []
 casts_spent at [] (e ∷ es) t h = absurd (let no = h in cc)

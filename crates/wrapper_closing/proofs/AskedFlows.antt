@@ -11,7 +11,7 @@ use Rattle.abi_bindgen.specs.declared.instruction.Instruction.TheVariants.{Bitca
 use Rattle.abi_bindgen.specs.Flow.{Flow, ask, behind, both, cast_by, emit, in_block, leading, leave_none, same, zeros_of, ◌>>>◌}
 use Rattle.abi_bindgen.specs.Flows.{Flows}
 use Rattle.abi_bindgen.specs.Sent.{asks, closes, opens, sends}
-use Rattle.abi_bindgen.proofs.SpentFlows.{converts, is_plain, is_thrifty, spends, uses}
+use Rattle.abi_bindgen.proofs.SpentFlows.{converts, is_plain, is_thrifty, spends}
 use Rattle.func_gen.specs.declared.function_bindgen.FunctionBindgen.{FunctionBindgen}
 use Rattle.func_gen.specs.declared.operand.ExprOperand.{ExprOperand}
 use Rattle.func_gen.specs.Formed.{Formed}
@@ -157,6 +157,7 @@ module _ (types : List TypeDef) where
           let second = spending_flows two between gives next new parts.1 g (still_plain old next (still_flows types one reads between old next h) plain) in
           accounts_then old next new between gives (by_one parts.0) second.0 second.1
 
+  -- where all that it reads is named already, it names what it asks for, or what it gives does
   pub thrifty_flows : (code : Flow) (reads gives : List ExprOperand) (old new : FunctionBindgen) → is_thrifty code ≡ true → Flows func_meaning types code reads gives old new → ArePlain old.params → AreSettled reads old → Accounts old new gives
   thrifty_flows (emit i) reads gives old new t e plain settled = step_accounts types reads gives old new plain (sends i) e.form
   thrifty_flows (cast_by casts) reads gives old new t h plain settled = (plain_flows (cast_by casts) reads gives old new refl h plain settled).0

@@ -13,7 +13,6 @@ use Rattle.rust_tree.specs.declared.stmt.Block.{Block}
 use Rattle.rust_tree.specs.declared.stmt.Stmt.{Stmt}
 use Rattle.rust_tree.specs.declared.stmt.Stmt.TheVariants as stmt
 use Rattle.rust_tree.specs.Asked.{asked_by_arm, asked_by_block, asked_by_expr, asked_by_stmt, asked_by_tail}
-use Rattle.rust_tree.specs.declared.expr.Expr.TheVariants as expr
 use Rattle.wrapper_run.specs.Code.{code_of}
 use Rattle.func_gen.specs.declared.function_bindgen.FinishedBlock.{FinishedBlock}
 use Rattle.func_gen.specs.declared.operand.ExprOperand.{ExprOperand}

@@ -1,3 +1,4 @@
+pub mod AskedLaws
 pub mod Begun
 pub mod Bodies
 pub mod ClosedExport

@@ -2,6 +2,7 @@
 //! function. The definitions are in `specs/`, and the laws are functions.
 #![tactic(auto)]
 
+mod asked_laws;
 mod block;
 mod body_laws;
 mod exports;
@@ -15,6 +16,7 @@ mod post_returns;
 mod printed_law;
 mod sites;
 
+pub use asked_laws::asked_body_law;
 pub use block::import_block;
 pub use body_laws::one_body_law;
 pub use exports::export_body;

@@ -23,6 +23,6 @@ returns c = record {
   made_of = c.in_ok-parts.ensures;
   body = c.in_ok-body.body;
   makes = c.in_ok-body.ensures;
-  is = c.import_block.ensures.block ∙ ap (λ area. block_of area c.in_ok-body.body) c.in_ok-area.ensures;
-  asks = c.import_block.ensures.runtime;
+  is = c.in_ok-made.ensures.block ∙ ap (λ area. block_of area c.in_ok-body.body) c.in_ok-area.ensures;
+  asks = c.in_ok-made.ensures.runtime;
 }
