@@ -1,5 +1,5 @@
 -- What the sites of these worlds write: each type of a table that has one type, and so whatever a function reaches.
-use Rattle.std.proofs.Common.{◌≡◌, ◌≤◌, ℕ, zero, suc, false, List, [], ◌∷◌, length, map, Option, None, Some, refl, sym, ap, subst, arith}
+use Rattle.std.proofs.Common.{◌≡◌, ◌<◌, ◌≤◌, ℕ, zero, suc, false, List, [], ◌∷◌, length, map, Option, None, Some, refl, sym, ap, subst, arith}
 use Rattle.wit_model.specs.Bytes.{Bytes}
 use Rattle.wit_model.specs.declared.function.Function.{Function}
 use Rattle.wit_model.specs.declared.types.Case.{Case}
@@ -42,11 +42,12 @@ pub flags_written : (types : List TypeDef) (t : TypeDef) (members : List Member)
     → (id : ℕ) → CanWrite types (Some (site.Flags (record { path = path; repr = U64; members = 40 })) ∷ []) id
 flags_written types t members path one is many =
     let within : 40 ≤ 128 = omega arith in
+    let several : 0 < 40 = omega arith in
     only types t one (site.Flags (record { path = path; repr = U64; members = 40 }))
     (subst (WritesKind (t ∷ []) (Some (site.Flags (record { path = path; repr = U64; members = 40 })) ∷ []) 0) (sym is)
     (record {
       site = record { path = path; repr = U64; members = 40 };
-      is_site = record { at = refl; count = (members, record { entry = t; stands = refl; kind = is }, many); within = within; held = refl };
+      is_site = record { at = refl; count = (members, record { entry = t; stands = refl; kind = is }, many); some = several; within = within; held = refl };
     }))
 
 pub function_written : (types : List TypeDef) (sites : List (Option TypeSite)) (f : Function) → ((id : ℕ) → CanWrite types sites id) → CanWriteFunction types sites f
