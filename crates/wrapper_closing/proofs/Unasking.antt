@@ -1,14 +1,10 @@
 -- Acts that make requests only where they place the static area.
-use Rattle.std.proofs.Common.{◌≡◌, ◌⊎◌, inl, inr, ℕ, zero, suc, ◌+◌, ◌-◌, ◌^◌, ◌||◌, Bool, true, false, cond, List, [], ◌∷◌, ◌++◌, drop, take, Option, None, Some, refl, sym, ap, ◌∙◌}
-use Rattle.std.specs.Prelude.{ℤ, nat_eq, nat_lt, option_and_then}
+use Rattle.std.proofs.Common.{◌≡◌, ◌⊎◌, inl, inr, ℕ, suc, ◌||◌, Bool, true, false, cond, List, [], ◌∷◌, ◌++◌, drop, take, Option, None, Some, refl, sym, ap, ◌∙◌}
+use Rattle.std.specs.Prelude.{nat_eq, option_and_then}
 use Rattle.std.specs.Option.{option_map}
-use Rattle.std.specs.Str.{is_utf8}
 use Rattle.wit_model.specs.Bytes.{Bytes}
-use Rattle.wit_model.specs.Size.{bytes_at}
-use Rattle.wit_model.specs.declared.size.ArchitectureSize.{ArchitectureSize}
 use Rattle.wit_model.specs.declared.wasm_type.WasmType.{WasmType}
 use Rattle.rust_tree.specs.declared.area.StaticArea.{StaticArea}
-use Rattle.rust_tree.specs.declared.expr.SmallType.{SmallType}
 use Rattle.rust_tree.specs.declared.stmt.ImportDecl.{ImportDecl}
 use Rattle.rust_tree.specs.declared.type_expr.TypeExpr.{TypeExpr}
 use Rattle.wrapper_data.specs.Answered.{answered}
@@ -21,9 +17,6 @@ use Rattle.wrapper_data.specs.declared.choice.Request.{Request}
 use Rattle.wrapper_data.specs.declared.run.CallPoint.{CallPoint}
 use Rattle.wrapper_data.specs.declared.run.Stop.{Stop}
 use Rattle.wrapper_data.specs.declared.run.Stop.TheVariants as stop_of
-use Rattle.wrapper_data.specs.declared.run.TrapKind.TheVariants as trap
-use Rattle.wrapper_data.specs.declared.value.RustValue.TheVariants as value
-use Rattle.wrapper_data.specs.declared.word.Word.{Word}
 use Rattle.wrapper_data.specs.declared.word.Word.TheVariants as word
 use Rattle.wrapper_values.specs.declared.owning.View.{View}
 use Rattle.wrapper_values.specs.declared.state.Local.{Local}
@@ -31,16 +24,16 @@ use Rattle.wrapper_values.specs.declared.state.State.{State}
 use Rattle.wrapper_values.specs.declared.state.Val.{Val}
 use Rattle.wrapper_values.specs.declared.state.Val.TheVariants as val
 use Rattle.wrapper_values.specs.Act.{Act, Outcome, Done, Stopped, ◌>>=◌, ◌>>◌, and_then, or_stop, pure, stop}
-use Rattle.wrapper_values.specs.Effect.{integer_of, word_of}
 use Rattle.wrapper_values.specs.Locals.{ask_local, bind, declare, lend_local, local_named, usable, use_local, used, value_of, give_local, slot_with, write_slot}
 use Rattle.wrapper_values.specs.Owning.{buffer_of, lent, listed, owned, owned_in, taken_by, view}
-use Rattle.wrapper_values.specs.Setting.{Setting, failed, stuck}
-use Rattle.wrapper_run.specs.Blocks.{box_buffer, boxed, dealloc, drop_local, drop_locals, drop_value, free, free_all, free_bytes, free_found, free_untaken, keep_blocks, keep_locals, leave_to, lift_buffer, lift_text, own, own_block, owned_block, owned_bytes, owner_of, release, release_all, release_found, store_small, store_word, take_over, tested, untaken, write_small, write_word}
+use Rattle.wrapper_values.specs.Setting.{Setting, stuck}
+use Rattle.wrapper_run.specs.Blocks.{box_buffer, boxed, drop_local, drop_locals, drop_value, free, free_all, free_found, keep_blocks, keep_locals, leave_to, owned_block, owned_bytes, release, release_all, release_found, removed, turn, untaken}
 use Rattle.wrapper_run.specs.ExportRun.{call_method, method_answer, method_call, returned_of, take_value}
 use Rattle.wrapper_run.specs.Growth.{state_of}
-use Rattle.wrapper_run.specs.Memory.{bytes_from, loaded, loaded_small, stored, stored_small}
+use Rattle.wrapper_run.specs.Memory.{loaded, loaded_small, stored, stored_small}
 use Rattle.wrapper_run.specs.Places.{area_in, is_fitting, place_area, place_at, place_static, request_of, static_place, static_pointer, with_area}
-use Rattle.wrapper_run.specs.Run.{answer_act, call_import, call_point, load_small, load_word, record_call, result_of, take_answer, take_bytes}
+use Rattle.wrapper_run.specs.Run.{answer_act, call_import, call_point, record_call, result_of, take_answer, take_bytes}
+use Rattle.wrapper_run.proofs.Acts.{Acts, takes_bytes}
 
 -- no request was made, unless a choice stopped the act
 abbrev pub Silent : {A : Type 0} → State → Outcome A → Type 0
@@ -183,57 +176,33 @@ pub unasking_releases : (w : Setting) (addresses : List ℕ) → Unasking (relea
 unasking_releases w [] = unasking_pure tt
 unasking_releases w (a ∷ more) = unasking_then (release w a) (λ _. release_all w more) (unasking_release w a) (λ _. unasking_releases w more)
 
-unasking_free_bytes : (w : Setting) (address size : ℕ) → Unasking (free_bytes w address size)
-unasking_free_bytes w address zero = unasking_pure tt
-unasking_free_bytes w address (suc n) = record { unasking = λ s. (go (untaken address (suc n) s)).unasking s }
-  where
-    go : (o : Option Block) → Unasking (free_untaken w address (suc n) o)
-    go None = unasking_stop (failed w trap.Block)
-    go (Some b) = record { unasking = λ s. same s _ refl refl }
+-- what looks at the memory or changes it
 
-pub unasking_dealloc : (w : Setting) (address size : ℕ) → Unasking (dealloc w address size)
-unfolding dealloc
-unasking_dealloc w address size =
-    unasking_if (nat_lt (2 ^ 31 - 1) size) (stop (failed w trap.Size)) (free_bytes w address size) (unasking_stop (failed w trap.Size)) (unasking_free_bytes w address size)
+unasking_kept : (w : Setting) (o : Option (List Block)) → Unasking (or_stop (stuck w) o >>= keep_blocks)
+unasking_kept w None = unasking_stop (stuck w)
+unasking_kept w (Some blocks) = record { unasking = λ s. same s _ refl refl }
 
--- blocks that come in
+unasking_removed : (e : Stop) (address size : ℕ) (o : Option Block) → Unasking (or_stop e o >> turn (removed address size))
+unasking_removed e address size None = unasking_stop e
+unasking_removed e address size (Some b) = record { unasking = λ s. same s _ refl refl }
 
-unasking_owner : (w : Setting) (p n : ℕ) (o : Option (List ℕ)) → Unasking (owner_of w p n o)
-unasking_owner w p n None = unasking_stop (failed w trap.Pointer)
-unasking_owner w p n (Some bytes) = record { unasking = λ s. same s _ refl refl }
-
-unasking_block : (w : Setting) (p n : ℕ) (o : Option Block) → Unasking (own_block w p n o)
-unasking_block w p n None = unasking_stop (failed w trap.Block)
-unasking_block w p n (Some b) = unasking_owner w p n (bytes_from b.cells 0 n)
-
-unasking_own : (w : Setting) (p n : ℕ) → Unasking (own w p n)
-unasking_own w p zero = unasking_pure (val.Value (value.Buffer p 0 true))
-unasking_own w p (suc n) = record { unasking = λ s. (unasking_block w p (suc n) (untaken p (suc n) s)).unasking s }
-
-unasking_take_over : (w : Setting) (p n : ℕ) → Unasking (take_over w p n)
-unfolding take_over
-unasking_take_over w p n =
-    unasking_if (nat_lt (2 ^ 31 - 1) n) (stop (failed w trap.Size)) (cond (nat_eq p 0) (stop (failed w trap.Pointer)) (own w p n)) (unasking_stop (failed w trap.Size))
-    (unasking_if (nat_eq p 0) (stop (failed w trap.Pointer)) (own w p n) (unasking_stop (failed w trap.Pointer)) (unasking_own w p n))
-
-unasking_taken : (w : Setting) (o : Option Val) (v : Val) → Unasking (take_bytes w o v)
-unasking_taken w (Some (val.Word (word.Length n))) (val.Word (word.Pointer address)) = unasking_take_over w address n
-unasking_taken w _ _ = unasking_stop (stuck w)
+pub unasking_acts : (w : Setting) → Acts w (λ A act. Unasking act)
+unasking_acts w = record {
+  gives = λ A a. unasking_pure a;
+  stops = λ A e. unasking_stop e;
+  follows = λ A B act f. unasking_then act f;
+  finds = λ e address n. unasking_asked e (untaken address (suc n));
+  tells = λ e address size. unasking_asked e (owned_bytes address size);
+  owns = λ address. record { unasking = λ s. same s _ refl refl };
+  removes = λ e address n. record { unasking = λ s. (unasking_removed e address (suc n) (untaken address (suc n) s)).unasking s };
+  loads = λ e address ty. unasking_asked e (λ s. option_map val.Word (loaded ty address s.heap.blocks));
+  loads_small = λ e address ty. unasking_asked e (λ s. option_map val.Word (loaded_small ty address s.heap.blocks));
+  stores = λ address ty v x is. record { unasking = λ s. (unasking_kept w (stored ty address x s.heap.blocks)).unasking s };
+  stores_small = λ address ty z. record { unasking = λ s. (unasking_kept w (stored_small ty address z s.heap.blocks)).unasking s };
+}
 
 pub unasking_take : (w : Setting) (name : Bytes) (v : Val) → Unasking (λ s. take_bytes w (value_of (local_named name s.locals)) v s)
-unasking_take w name v = record { unasking = λ s. (unasking_taken w (value_of (local_named name s.locals)) v).unasking s }
-
-unasking_tested : (w : Setting) (v : Val) (o : Option (List ℕ)) → Unasking (tested w v o)
-unasking_tested w v None = unasking_stop (stuck w)
-unasking_tested w v (Some bytes) = unasking_if (is_utf8 bytes) (pure v) (stop (failed w trap.Utf8)) (unasking_pure v) (unasking_stop (failed w trap.Utf8))
-
-unasking_buffer : (w : Setting) (v : Val) (o : Option (ℕ × ℕ × Bool)) → Unasking (lift_buffer w v o)
-unasking_buffer w v (Some (address, size, true)) = record { unasking = λ s. (unasking_tested w v (owned_bytes address size s)).unasking s }
-unasking_buffer w v _ = unasking_stop (stuck w)
-
-pub unasking_lift : (w : Setting) (v : Val) → Unasking (lift_text w v)
-unfolding lift_text
-unasking_lift w v = unasking_buffer w v (buffer_of v)
+unasking_take w name v = record { unasking = λ s. (takes_bytes w (λ A act. Unasking act) (unasking_acts w) (value_of (local_named name s.locals)) v).unasking s }
 
 pub unasking_box : (w : Setting) (v : Val) → Unasking (boxed w v)
 unfolding boxed
@@ -316,33 +285,3 @@ unasking_static w = record { unasking = λ s. (unasking_then (static_place w s.p
     go : (place : Option ℕ) → Unasking (static_place w place)
     go None = unasking_place_static w (area_in w.items)
     go (Some address) = unasking_pure address
-
--- loads and stores
-
-pub unasking_load : (w : Setting) (offset : ArchitectureSize) (ty : WasmType) (v : Val) → Unasking (load_word w offset ty v)
-unasking_load w offset ty (val.Word (word.Pointer address)) = unasking_asked (failed w trap.Pointer) (λ s. option_map val.Word (loaded ty (address + bytes_at offset 4) s.heap.blocks))
-unasking_load w offset ty _ = unasking_stop (stuck w)
-
-pub unasking_load_small : (w : Setting) (offset : ArchitectureSize) (ty : SmallType) (v : Val) → Unasking (load_small w offset ty v)
-unasking_load_small w offset ty (val.Word (word.Pointer address)) = unasking_asked (failed w trap.Pointer) (λ s. option_map val.Word (loaded_small ty (address + bytes_at offset 4) s.heap.blocks))
-unasking_load_small w offset ty _ = unasking_stop (stuck w)
-
-unasking_kept : (w : Setting) (o : Option (List Block)) → Unasking (or_stop (stuck w) o >>= keep_blocks)
-unasking_kept w None = unasking_stop (stuck w)
-unasking_kept w (Some blocks) = record { unasking = λ s. same s _ refl refl }
-
-unasking_written : (w : Setting) (ty : WasmType) (address : ℕ) (o : Option Word) → Unasking (write_word w ty address o)
-unasking_written w ty address None = unasking_stop (stuck w)
-unasking_written w ty address (Some x) = record { unasking = λ s. (unasking_kept w (stored ty address x s.heap.blocks)).unasking s }
-
-pub unasking_store : (w : Setting) (offset : ArchitectureSize) (ty : WasmType) (v at : Val) → Unasking (store_word w offset ty v at)
-unasking_store w offset ty v (val.Word (word.Pointer address)) = unasking_written w ty (address + bytes_at offset 4) (word_of ty v)
-unasking_store w offset ty v _ = unasking_stop (stuck w)
-
-unasking_small_written : (w : Setting) (ty : SmallType) (address : ℕ) (o : Option ℤ) → Unasking (write_small w ty address o)
-unasking_small_written w ty address None = unasking_stop (stuck w)
-unasking_small_written w ty address (Some z) = record { unasking = λ s. (unasking_kept w (stored_small ty address z s.heap.blocks)).unasking s }
-
-pub unasking_store_small : (w : Setting) (offset : ArchitectureSize) (ty : SmallType) (v at : Val) → Unasking (store_small w offset ty v at)
-unasking_store_small w offset ty v (val.Word (word.Pointer address)) = unasking_small_written w ty (address + bytes_at offset 4) (integer_of v)
-unasking_store_small w offset ty v _ = unasking_stop (stuck w)

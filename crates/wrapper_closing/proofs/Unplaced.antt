@@ -51,14 +51,15 @@ use Rattle.wrapper_run.specs.ExportRun.{call_inside, call_method, call_with, kee
 use Rattle.wrapper_run.specs.LastParts.{results}
 use Rattle.wrapper_run.specs.Run.{alone, apply, apply_item, apply_one, arm_act, arm_step, block_act, block_step, call_callee, call_core, call_member, call_runtime, Callee, callee, converted_or_lifted, core_case, core_forget, core_function, each, eval, eval_step, forget_one, lift_act, lift_case, lift_name, load_small, load_word, make_case, member_of, no_case, of_runtime, run_stmt, run_stmts, runtime_item_named, size_word, stmt_step, take_bytes, unknown}
 use Rattle.wrapper_closing.specs.Declares.{Area, arm_without_step, block_without_step, declare_none, is_arm_without, is_block_without, is_without, without_step}
-use Rattle.wrapper_closing.proofs.Unasking.{Unasking, unasking_ask, unasking_bind, unasking_box, unasking_dealloc, unasking_declare, unasking_drop, unasking_import, unasking_leave, unasking_lend, unasking_lift, unasking_load, unasking_load_small, unasking_method, unasking_or_stop, unasking_pure, unasking_releases, unasking_static, unasking_stop, unasking_store, unasking_store_small, unasking_take, unasking_then, unasking_use, unasking_write}
+use Rattle.wrapper_run.proofs.Acts.{deallocates as deallocates_bytes, lifts as lifts_text, loads_number, loads_word, stores_number, stores_word}
+use Rattle.wrapper_closing.proofs.Unasking.{Unasking, unasking_acts, unasking_ask, unasking_bind, unasking_box, unasking_declare, unasking_drop, unasking_import, unasking_leave, unasking_lend, unasking_method, unasking_or_stop, unasking_pure, unasking_releases, unasking_static, unasking_stop, unasking_take, unasking_then, unasking_use, unasking_write}
 
 module _ (w : Setting) where
   -- calls
 
   deallocates : (vs : List Val) → Unasking (dealloc_words w vs)
   deallocates (val.Word (word.Pointer address) ∷ val.Word (word.Length size) ∷ val.Word (word.Length align) ∷ []) =
-      unasking_then (dealloc w address size) (λ _. pure (val.Value value.Unit)) (unasking_dealloc w address size) (λ _. unasking_pure (val.Value value.Unit))
+      unasking_then (dealloc w address size) (λ _. pure (val.Value value.Unit)) (deallocates_bytes w (λ A act. Unasking act) (unasking_acts w) address size) (λ _. unasking_pure (val.Value value.Unit))
   deallocates _ = unasking_stop (stuck w)
 
   lifts : (o : Option (Result RustValue TrapKind)) → Unasking (lift_act w o)
@@ -71,7 +72,7 @@ module _ (w : Setting) where
   converts (Some x) l = unasking_pure (val.Word x)
 
   applies_item : (i : RuntimeItem) (v : Val) → Unasking (apply_item w i v)
-  applies_item StringLift v = unasking_lift w v
+  applies_item StringLift v = lifts_text w (λ A act. Unasking act) (unasking_acts w) v
   applies_item i v = converts (converted i v) (lift_of w.form i v)
 
   applies_one : (i : Option RuntimeItem) (vs : List Val) → Unasking (apply_one w i vs)
@@ -183,8 +184,8 @@ module _ (w : Setting) where
   layer X of k (Expr-F.Len name) = unasking_ask (stuck w) view_of.TextLength name
   layer X of k (Expr-F.CastMut name) = unasking_ask (stuck w) view_of.Pointer name
   layer X of k (Expr-F.ReturnPointer name) = unasking_ask (stuck w) view_of.AreaAddress name
-  layer X of k (Expr-F.Load e offset ty) = unasking_then (eval w (of e)) (load_word w offset ty) (k e) (unasking_load w offset ty)
-  layer X of k (Expr-F.LoadSmall e offset ty) = unasking_then (eval w (of e)) (load_small w offset ty) (k e) (unasking_load_small w offset ty)
+  layer X of k (Expr-F.Load e offset ty) = unasking_then (eval w (of e)) (load_word w offset ty) (k e) (loads_word w (λ A act. Unasking act) (unasking_acts w) offset ty)
+  layer X of k (Expr-F.LoadSmall e offset ty) = unasking_then (eval w (of e)) (load_small w offset ty) (k e) (loads_number w (λ A act. Unasking act) (unasking_acts w) offset ty)
   layer X of k (Expr-F.FromRawParts e name) = unasking_then (eval w (of e)) (λ v. λ s. take_bytes w (value_of (local_named name s.locals)) v s) (k e) (unasking_take w name)
   layer X of k (Expr-F.IntoBoxedBytes name) = unasking_then (use_local (stuck w) name) (boxed w) (unasking_use (stuck w) name) (unasking_box w)
   layer X of k Expr-F.StaticPointer = unasking_static w
@@ -299,9 +300,9 @@ module _ (w : Setting) where
   stmt_layer X Y Z stmt_in arm_in block_in k (Stmt-F.Area a) p = absurd (cc)
   stmt_layer X Y Z stmt_in arm_in block_in k (Stmt-F.LetParts q e) p = unasking_then (eval w e) (take_apart w q) (unasking_eval e) (takes_apart q)
   stmt_layer X Y Z stmt_in arm_in block_in k (Stmt-F.Store address offset ty e) p =
-      unasking_then (eval w e) (λ v. eval w address >>= store_word w offset ty v) (unasking_eval e) (λ v. unasking_then (eval w address) (store_word w offset ty v) (unasking_eval address) (unasking_store w offset ty v))
+      unasking_then (eval w e) (λ v. eval w address >>= store_word w offset ty v) (unasking_eval e) (λ v. unasking_then (eval w address) (store_word w offset ty v) (unasking_eval address) (stores_word w (λ A act. Unasking act) (unasking_acts w) offset ty v))
   stmt_layer X Y Z stmt_in arm_in block_in k (Stmt-F.StoreSmall address offset ty e) p =
-      unasking_then (eval w e) (λ v. eval w address >>= store_small w offset ty v) (unasking_eval e) (λ v. unasking_then (eval w address) (store_small w offset ty v) (unasking_eval address) (unasking_store_small w offset ty v))
+      unasking_then (eval w e) (λ v. eval w address >>= store_small w offset ty v) (unasking_eval e) (λ v. unasking_then (eval w address) (store_small w offset ty v) (unasking_eval address) (stores_number w (λ A act. Unasking act) (unasking_acts w) offset ty v))
   stmt_layer X Y Z stmt_in arm_in block_in k (Stmt-F.Match names e arms) p =
       let acts = map (arm_act w) (map arm_in arms) in
       unasking_then (eval w e) (run_match w names acts) (unasking_eval e)

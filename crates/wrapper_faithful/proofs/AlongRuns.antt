@@ -1,11 +1,8 @@
 -- What holds of one move of the machine after another holds along whole runs: whatever the tree is, a run goes by few kinds of moves.
-use Rattle.std.proofs.Common.{◌≡◌, ℕ, zero, suc, ◌+◌, ◌-◌, ◌^◌, ◌||◌, ◌%◌, ◌&&◌, Bool, true, false, cond, List, [], ◌∷◌, ◌++◌, map, drop, take, length, Option, None, Some, refl}
-use Rattle.std.specs.Prelude.{ℤ, nat_eq, nat_lt, option_and_then}
+use Rattle.std.proofs.Common.{◌≡◌, ℕ, suc, ◌||◌, ◌%◌, ◌&&◌, Bool, true, false, cond, List, [], ◌∷◌, ◌++◌, map, drop, take, length, Option, None, Some, refl}
+use Rattle.std.specs.Prelude.{ℤ, nat_eq, option_and_then}
 use Rattle.std.specs.Option.{option_map}
-use Rattle.std.specs.Str.{is_utf8}
 use Rattle.wit_model.specs.Bytes.{Bytes}
-use Rattle.wit_model.specs.Size.{bytes_at}
-use Rattle.wit_model.specs.declared.size.ArchitectureSize.{ArchitectureSize}
 use Rattle.wit_model.specs.declared.wasm_type.WasmType.{WasmType}
 use Rattle.rust_tree.specs.declared.area.StaticArea.{StaticArea}
 use Rattle.rust_tree.specs.declared.export.CallBlock.{CallBlock}
@@ -28,9 +25,7 @@ use Rattle.wrapper_data.specs.declared.choice.Request.{Request}
 use Rattle.wrapper_data.specs.declared.run.CallPoint.{CallPoint}
 use Rattle.wrapper_data.specs.declared.run.Stop.{Stop}
 use Rattle.wrapper_data.specs.declared.run.Stop.TheVariants as stop_of
-use Rattle.wrapper_data.specs.declared.run.TrapKind.TheVariants as trap
 use Rattle.wrapper_data.specs.declared.value.RustValue.{RustValue}
-use Rattle.wrapper_data.specs.declared.value.RustValue.TheVariants as value
 use Rattle.wrapper_data.specs.declared.word.Word.{Word}
 use Rattle.wrapper_data.specs.declared.word.Word.TheVariants as word
 use Rattle.wrapper_values.specs.declared.state.Local.{Local}
@@ -38,17 +33,17 @@ use Rattle.wrapper_values.specs.declared.state.State.{State}
 use Rattle.wrapper_values.specs.declared.state.Val.{Val}
 use Rattle.wrapper_values.specs.declared.state.Val.TheVariants as val
 use Rattle.wrapper_values.specs.Act.{Act, Outcome, Done, Stopped, ◌>>=◌, ◌>>◌, all, and_then, or_stop, pure, stop}
-use Rattle.wrapper_run.specs.Blocks.{dealloc, drop_local, drop_locals, drop_value, free, free_all, free_bytes, free_found, free_untaken, keep_blocks, keep_locals, leave_to, lift_buffer, lift_text, own, own_block, owned_block, owned_bytes, owner_of, release, release_found, store_small, store_word, take_over, tested, untaken, write_small, write_word, in_scope}
-use Rattle.wrapper_values.specs.Effect.{integer_of, word_of}
+use Rattle.wrapper_run.specs.Blocks.{drop_local, drop_locals, drop_value, free, free_all, free_found, in_scope, keep_blocks, keep_locals, leave_to, owned_block, owned_bytes, release, release_found, removed, turn, untaken}
 use Rattle.wrapper_run.specs.ExportRun.{call_inside, call_method, call_with, core_answer, expect_words, keep_result, method_answer, method_call, returned_of, run_call, run_export_fn, run_to_words, take_value, are_words_of}
 use Rattle.wrapper_values.specs.Locals.{ask_local, bind, declare, lend_local, local_named, usable, use_local, used, value_of, give_local, slot_with, write_slot}
 use Rattle.wrapper_run.specs.Growth.{state_of}
-use Rattle.wrapper_run.specs.Memory.{bytes_from, bytes_of_small, loaded, loaded_small, low_bytes, stored, stored_small}
-use Rattle.wrapper_values.specs.Owning.{buffer_of, lent, listed, owned, owned_in, taken_by}
+use Rattle.wrapper_run.specs.Memory.{bytes_of_small, loaded, loaded_small, low_bytes, stored, stored_small}
+use Rattle.wrapper_values.specs.Owning.{lent, listed, owned, owned_in, taken_by}
 use Rattle.wrapper_run.specs.Places.{area_in, is_fitting, place_area, place_at, place_static, request_of, static_place, static_pointer, with_area}
-use Rattle.wrapper_run.specs.Run.{answer_act, answer_and_leave, call_import, call_point, eval, give_and_leave, load_small, load_word, record_call, result_of, run_block, run_fn, run_stmts, take_answer, take_bytes}
-use Rattle.wrapper_values.specs.Setting.{Setting, failed, stuck}
+use Rattle.wrapper_run.specs.Run.{answer_act, answer_and_leave, call_import, call_point, eval, give_and_leave, record_call, result_of, run_block, run_fn, run_stmts, take_answer}
+use Rattle.wrapper_values.specs.Setting.{Setting, stuck}
 use Rattle.wrapper_values.specs.Typed.{answer_in}
+use Rattle.wrapper_run.proofs.Acts.{Acts, deallocates, lifts, loads_number, loads_word, stores_number, stores_word, takes_bytes}
 use Rattle.wrapper_run.proofs.GrowLemmas.{all_known}
 use Rattle.wrapper_run.proofs.Walk.{Everywhere, known_block, known_expr, known_stmts, walks_block, walks_expr, walks_stmts}
 use Rattle.rust_tree.specs.declared.export.PostReturnFn.{PostReturnFn}
@@ -167,54 +162,6 @@ module _ (R : State → State → Type 0) (Fits : Answer → Type 0) (m : Moves 
   unfolding release
   along_release w address = record { along = λ s. (along_released w address (owned_block address s)).along s }
 
-  along_free_bytes : (w : Setting) (address size : ℕ) → Along (free_bytes w address size)
-  along_free_bytes w address zero = along_pure tt
-  along_free_bytes w address (suc n) = record { along = λ s. (go (untaken address (suc n) s)).along s }
-    where
-      go : (o : Option Block) → Along (free_untaken w address (suc n) o)
-      go None = along_stop (failed w trap.Block)
-      go (Some b) = record { along = λ s. m.freed s address (suc n) }
-
-  along_if : {A : Type 0} (b : Bool) (p q : Act A) → Along p → Along q → Along (cond b p q)
-  along_if true p q h k = h
-  along_if false p q h k = k
-
-  along_dealloc : (w : Setting) (address size : ℕ) → Along (dealloc w address size)
-  unfolding dealloc
-  along_dealloc w address size = along_if (nat_lt (2 ^ 31 - 1) size) (stop (failed w trap.Size)) (free_bytes w address size) (along_stop (failed w trap.Size)) (along_free_bytes w address size)
-
-  -- blocks that come in
-
-  along_owner : (w : Setting) (p n : ℕ) (o : Option (List ℕ)) → Along (owner_of w p n o)
-  along_owner w p n None = along_stop (failed w trap.Pointer)
-  along_owner w p n (Some bytes) = record { along = λ s. m.same s _ refl refl refl }
-
-  along_block : (w : Setting) (p n : ℕ) (o : Option Block) → Along (own_block w p n o)
-  along_block w p n None = along_stop (failed w trap.Block)
-  along_block w p n (Some b) = along_owner w p n (bytes_from b.cells 0 n)
-
-  along_own : (w : Setting) (p n : ℕ) → Along (own w p n)
-  along_own w p zero = along_pure (val.Value (value.Buffer p 0 true))
-  along_own w p (suc n) = record { along = λ s. (along_block w p (suc n) (untaken p (suc n) s)).along s }
-
-  along_take_over : (w : Setting) (p n : ℕ) → Along (take_over w p n)
-  unfolding take_over
-  along_take_over w p n =
-      along_if (nat_lt (2 ^ 31 - 1) n) (stop (failed w trap.Size)) (cond (nat_eq p 0) (stop (failed w trap.Pointer)) (own w p n)) (along_stop (failed w trap.Size))
-      (along_if (nat_eq p 0) (stop (failed w trap.Pointer)) (own w p n) (along_stop (failed w trap.Pointer)) (along_own w p n))
-
-  along_take : (w : Setting) (o : Option Val) (v : Val) → Along (take_bytes w o v)
-  along_take w (Some (val.Word (word.Length n))) (val.Word (word.Pointer address)) = along_take_over w address n
-  along_take w _ _ = along_stop (stuck w)
-
-  along_tested : (w : Setting) (v : Val) (o : Option (List ℕ)) → Along (tested w v o)
-  along_tested w v None = along_stop (stuck w)
-  along_tested w v (Some bytes) = along_if (is_utf8 bytes) (pure v) (stop (failed w trap.Utf8)) (along_pure v) (along_stop (failed w trap.Utf8))
-
-  along_lift : (w : Setting) (v : Val) (o : Option (ℕ × ℕ × Bool)) → Along (lift_buffer w v o)
-  along_lift w v (Some (address, size, true)) = record { along = λ s. (along_tested w v (owned_bytes address size s)).along s }
-  along_lift w v _ = along_stop (stuck w)
-
   -- calls
 
   along_answer : (w : Setting) (ty : Option WasmType) → Along (take_answer w ty)
@@ -287,12 +234,11 @@ module _ (R : State → State → Type 0) (Fits : Answer → Type 0) (m : Moves 
       go None = along_place_static w (area_in w.items)
       go (Some address) = along_pure address
 
-  -- loads, stores, and values with parts
+  -- what looks at the memory or changes it
 
-  along_load : (w : Setting) (offset : ArchitectureSize) (ty : WasmType) (v : Val) → Along (load_word w offset ty v)
-  along_load w offset ty (val.Word (word.Pointer address)) =
-      record { along = λ s. (along_or_stop (failed w trap.Pointer) (option_map val.Word (loaded ty (address + bytes_at offset 4) s.heap.blocks))).along s }
-  along_load w offset ty _ = along_stop (stuck w)
+  along_removed : (e : Stop) (address size : ℕ) (o : Option Block) → Along (or_stop e o >> turn (removed address size))
+  along_removed e address size None = along_stop e
+  along_removed e address size (Some b) = record { along = λ s. m.freed s address size }
 
   along_kept : (w : Setting) (address : ℕ) (bytes : List ℕ) (s : State) (b : Bool)
       → R s (state_of ((or_stop (stuck w) (cond b (Some (with_writes s.heap.blocks (writes_from address bytes))) None) >>= keep_blocks) s))
@@ -303,36 +249,26 @@ module _ (R : State → State → Type 0) (Fits : Answer → Type 0) (m : Moves 
   unfolding stored
   along_stored w ty address x s = along_kept w address (bytes_of x) s (nat_eq (address % bytes_of_type ty) 0 && is_inside address (bytes_of_type ty) s.heap.blocks)
 
-  along_written : (w : Setting) (ty : WasmType) (address : ℕ) (o : Option Word) → Along (write_word w ty address o)
-  along_written w ty address None = along_stop (stuck w)
-  along_written w ty address (Some x) = record { along = along_stored w ty address x }
-
-  along_store : (w : Setting) (offset : ArchitectureSize) (ty : WasmType) (v at : Val) → Along (store_word w offset ty v at)
-  along_store w offset ty v (val.Word (word.Pointer address)) = along_written w ty (address + bytes_at offset 4) (word_of ty v)
-  along_store w offset ty v _ = along_stop (stuck w)
-
-  along_load_small : (w : Setting) (offset : ArchitectureSize) (ty : SmallType) (v : Val) → Along (load_small w offset ty v)
-  along_load_small w offset ty (val.Word (word.Pointer address)) =
-      record { along = λ s. (along_or_stop (failed w trap.Pointer) (option_map val.Word (loaded_small ty (address + bytes_at offset 4) s.heap.blocks))).along s }
-  along_load_small w offset ty _ = along_stop (stuck w)
-
   along_stored_small : (w : Setting) (ty : SmallType) (address : ℕ) (z : ℤ) (s : State) → R s (state_of ((or_stop (stuck w) (stored_small ty address z s.heap.blocks) >>= keep_blocks) s))
   unfolding stored_small
   along_stored_small w ty address z s = along_kept w address (low_bytes ty z) s (nat_eq (address % bytes_of_small ty) 0 && is_inside address (bytes_of_small ty) s.heap.blocks)
 
-  along_written_small : (w : Setting) (ty : SmallType) (address : ℕ) (o : Option ℤ) → Along (write_small w ty address o)
-  along_written_small w ty address None = along_stop (stuck w)
-  along_written_small w ty address (Some z) = record { along = along_stored_small w ty address z }
-
-  along_store_small : (w : Setting) (offset : ArchitectureSize) (ty : SmallType) (v at : Val) → Along (store_small w offset ty v at)
-  along_store_small w offset ty v (val.Word (word.Pointer address)) = along_written_small w ty (address + bytes_at offset 4) (integer_of v)
-  along_store_small w offset ty v _ = along_stop (stuck w)
+  along_acts : (w : Setting) → Acts w (λ A act. Along act)
+  along_acts w = record {
+    gives = λ A a. along_pure a;
+    stops = λ A e. along_stop e;
+    follows = λ A B act f. along_then act f;
+    finds = λ e address n. along_asked e (untaken address (suc n));
+    tells = λ e address size. along_asked e (owned_bytes address size);
+    owns = λ address. record { along = λ s. m.same s _ refl refl refl };
+    removes = λ e address n. record { along = λ s. (along_removed e address (suc n) (untaken address (suc n) s)).along s };
+    loads = λ e address ty. along_asked e (λ s. option_map val.Word (loaded ty address s.heap.blocks));
+    loads_small = λ e address ty. along_asked e (λ s. option_map val.Word (loaded_small ty address s.heap.blocks));
+    stores = λ address ty v x is. record { along = along_stored w ty address x };
+    stores_small = λ address ty z. record { along = along_stored_small w ty address z };
+  }
 
   -- all code
-
-  along_lift_text : (w : Setting) (v : Val) → Along (lift_text w v)
-  unfolding lift_text
-  along_lift_text w v = along_lift w v (buffer_of v)
 
   along_scope : {A : Type 0} (w : Setting) (act : Act A) → Along act → Along (in_scope w act)
   along_scope w act h = record {
@@ -353,13 +289,13 @@ module _ (R : State → State → Type 0) (Fits : Answer → Type 0) (m : Moves 
     declares = along_declare;
     frees = along_free w;
     releases = along_release w;
-    deallocates = along_dealloc w;
-    takes = λ name v _. record { along = λ s. (along_take w (value_of (local_named name s.locals)) v).along s };
-    lifts = along_lift_text w;
-    loads = along_load w;
-    loads_small = along_load_small w;
-    stores = along_store w;
-    stores_small = along_store_small w;
+    deallocates = deallocates w (λ A act. Along act) (along_acts w);
+    takes = λ name v _. record { along = λ s. (takes_bytes w (λ A act. Along act) (along_acts w) (value_of (local_named name s.locals)) v).along s };
+    lifts = lifts w (λ A act. Along act) (along_acts w);
+    loads = loads_word w (λ A act. Along act) (along_acts w);
+    loads_small = loads_number w (λ A act. Along act) (along_acts w);
+    stores = stores_word w (λ A act. Along act) (along_acts w);
+    stores_small = stores_number w (λ A act. Along act) (along_acts w);
     places = along_place w;
     static = along_static w;
     calls = λ name vs _. along_import w name vs;

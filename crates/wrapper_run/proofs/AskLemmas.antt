@@ -1,39 +1,30 @@
 -- Inward code makes no call and places no area: each of its acts does not.
-use Rattle.std.proofs.Common.{◌≡◌, ℕ, zero, suc, ◌+◌, ◌-◌, ◌^◌, Bool, true, false, cond, List, [], ◌∷◌, drop, take, length, Option, None, Some, refl, ◌∙◌}
-use Rattle.std.specs.Prelude.{ℤ, nat_eq, nat_lt, option_and_then}
+use Rattle.std.proofs.Common.{◌≡◌, ℕ, suc, true, List, [], ◌∷◌, drop, take, length, Option, None, Some, refl, ◌∙◌}
+use Rattle.std.specs.Prelude.{option_and_then}
 use Rattle.std.specs.Option.{option_map}
-use Rattle.std.specs.Str.{is_utf8}
 use Rattle.wit_model.specs.Bytes.{Bytes}
-use Rattle.wit_model.specs.Size.{bytes_at}
-use Rattle.wit_model.specs.declared.size.ArchitectureSize.{ArchitectureSize}
-use Rattle.wit_model.specs.declared.wasm_type.WasmType.{WasmType}
 use Rattle.rust_tree.specs.declared.expr.Expr.{Expr}
-use Rattle.rust_tree.specs.declared.expr.SmallType.{SmallType}
 use Rattle.rust_tree.specs.declared.stmt.Block.{Block as Code}
 use Rattle.rust_tree.specs.declared.stmt.ImportDecl.{ImportDecl}
 use Rattle.wrapper_data.specs.declared.block.Block.{Block}
 use Rattle.wrapper_data.specs.declared.run.Stop.{Stop}
-use Rattle.wrapper_data.specs.declared.run.TrapKind.TheVariants as trap
-use Rattle.wrapper_data.specs.declared.value.RustValue.TheVariants as value
-use Rattle.wrapper_data.specs.declared.word.Word.{Word}
-use Rattle.wrapper_data.specs.declared.word.Word.TheVariants as word
 use Rattle.wrapper_values.specs.declared.owning.View.{View}
 use Rattle.wrapper_values.specs.declared.state.Local.{Local}
 use Rattle.wrapper_values.specs.declared.state.State.{State}
 use Rattle.wrapper_values.specs.declared.state.Val.{Val}
 use Rattle.wrapper_values.specs.declared.state.Val.TheVariants as val
 use Rattle.wrapper_values.specs.Act.{Act, Outcome, Done, Stopped, ◌>>=◌, ◌>>◌, and_then, or_stop, pure, stop}
-use Rattle.wrapper_run.specs.Blocks.{dealloc, drop_local, drop_locals, drop_value, free, free_all, free_bytes, free_found, free_untaken, in_scope, keep_blocks, keep_locals, leave_to, lift_buffer, lift_text, own, own_block, owned_block, owned_bytes, owner_of, release, release_found, store_small, store_word, take_over, tested, untaken, write_small, write_word}
+use Rattle.wrapper_run.specs.Blocks.{drop_local, drop_locals, drop_value, free, free_all, free_found, in_scope, keep_blocks, keep_locals, leave_to, owned_block, owned_bytes, release, release_found, removed, turn, untaken}
 use Rattle.wrapper_values.specs.CoreWords.{empty_slot}
-use Rattle.wrapper_values.specs.Effect.{integer_of, word_of}
 use Rattle.wrapper_values.specs.Locals.{ask_local, bind, declare, lend_local, give_local, local_named, slot_with, usable, use_local, used, value_of, write_slot}
-use Rattle.wrapper_run.specs.Memory.{bytes_from, loaded, loaded_small, stored, stored_small}
-use Rattle.wrapper_values.specs.Owning.{buffer_of, lent, owned, owned_in, view}
+use Rattle.wrapper_run.specs.Memory.{loaded, loaded_small, stored, stored_small}
+use Rattle.wrapper_values.specs.Owning.{lent, owned, owned_in, view}
 use Rattle.wrapper_run.specs.Results.{run_inner, run_results}
-use Rattle.wrapper_run.specs.Run.{eval, load_small, load_word, run_block, take_bytes}
-use Rattle.wrapper_values.specs.Setting.{Setting, failed, stuck}
+use Rattle.wrapper_run.specs.Run.{eval, run_block}
+use Rattle.wrapper_values.specs.Setting.{Setting, stuck}
 use Rattle.wrapper_run.specs.Growth.{state_of}
 use Rattle.wrapper_run.specs.Inward.{AskedAlike, AsksNothing, is_inward}
+use Rattle.wrapper_run.proofs.Acts.{Acts, deallocates, lifts, loads_number, loads_word, stores_number, stores_word, takes_bytes}
 use Rattle.wrapper_run.proofs.InwardWalk.{Within, walks_block, walks_given}
 
 asked_then : (s t u : State) → AskedAlike s t → AskedAlike t u → AskedAlike s u
@@ -130,89 +121,30 @@ pub asks_release : (w : Setting) (address : ℕ) → AsksNothing (release w addr
 unfolding release
 asks_release w address = record { nothing = λ s. (asks_released w address (owned_block address s)).nothing s }
 
-asks_free_bytes : (w : Setting) (address size : ℕ) → AsksNothing (free_bytes w address size)
-asks_free_bytes w address zero = asks_pure tt
-asks_free_bytes w address (suc n) = record { nothing = λ s. (go (untaken address (suc n) s)).nothing s }
-  where
-    go : (o : Option Block) → AsksNothing (free_untaken w address (suc n) o)
-    go None = asks_stop (failed w trap.Block)
-    go (Some b) = record { nothing = λ s. record { calls = refl; requests = refl } }
-
-asks_if : {A : Type 0} (b : Bool) (p q : Act A) → AsksNothing p → AsksNothing q → AsksNothing (cond b p q)
-asks_if true p q h k = h
-asks_if false p q h k = k
-
-pub asks_dealloc : (w : Setting) (address size : ℕ) → AsksNothing (dealloc w address size)
-unfolding dealloc
-asks_dealloc w address size = asks_if (nat_lt (2 ^ 31 - 1) size) (stop (failed w trap.Size)) (free_bytes w address size) (asks_stop (failed w trap.Size)) (asks_free_bytes w address size)
-
--- blocks that come in
-
-asks_owner : (w : Setting) (p n : ℕ) (o : Option (List ℕ)) → AsksNothing (owner_of w p n o)
-asks_owner w p n None = asks_stop (failed w trap.Pointer)
-asks_owner w p n (Some bytes) = record { nothing = λ s. record { calls = refl; requests = refl } }
-
-asks_block : (w : Setting) (p n : ℕ) (o : Option Block) → AsksNothing (own_block w p n o)
-asks_block w p n None = asks_stop (failed w trap.Block)
-asks_block w p n (Some b) = asks_owner w p n (bytes_from b.cells 0 n)
-
-asks_own : (w : Setting) (p n : ℕ) → AsksNothing (own w p n)
-asks_own w p zero = asks_pure (val.Value (value.Buffer p 0 true))
-asks_own w p (suc n) = record { nothing = λ s. (asks_block w p (suc n) (untaken p (suc n) s)).nothing s }
-
-asks_take_over : (w : Setting) (p n : ℕ) → AsksNothing (take_over w p n)
-unfolding take_over
-asks_take_over w p n =
-    asks_if (nat_lt (2 ^ 31 - 1) n) (stop (failed w trap.Size)) (cond (nat_eq p 0) (stop (failed w trap.Pointer)) (own w p n)) (asks_stop (failed w trap.Size))
-    (asks_if (nat_eq p 0) (stop (failed w trap.Pointer)) (own w p n) (asks_stop (failed w trap.Pointer)) (asks_own w p n))
-
-pub asks_take : (w : Setting) (o : Option Val) (v : Val) → AsksNothing (take_bytes w o v)
-asks_take w (Some (val.Word (word.Length n))) (val.Word (word.Pointer address)) = asks_take_over w address n
-asks_take w _ _ = asks_stop (stuck w)
-
-asks_tested : (w : Setting) (v : Val) (o : Option (List ℕ)) → AsksNothing (tested w v o)
-asks_tested w v None = asks_stop (stuck w)
-asks_tested w v (Some bytes) = asks_if (is_utf8 bytes) (pure v) (stop (failed w trap.Utf8)) (asks_pure v) (asks_stop (failed w trap.Utf8))
-
-asks_lift : (w : Setting) (v : Val) (o : Option (ℕ × ℕ × Bool)) → AsksNothing (lift_buffer w v o)
-asks_lift w v (Some (address, size, true)) = record { nothing = λ s. (asks_tested w v (owned_bytes address size s)).nothing s }
-asks_lift w v _ = asks_stop (stuck w)
-
-pub asks_lift_text : (w : Setting) (v : Val) → AsksNothing (lift_text w v)
-unfolding lift_text
-asks_lift_text w v = asks_lift w v (buffer_of v)
-
--- loads, stores, and values with parts
-
-pub asks_load : (w : Setting) (offset : ArchitectureSize) (ty : WasmType) (v : Val) → AsksNothing (load_word w offset ty v)
-asks_load w offset ty (val.Word (word.Pointer address)) =
-    record { nothing = λ s. (asks_or_stop (failed w trap.Pointer) (option_map val.Word (loaded ty (address + bytes_at offset 4) s.heap.blocks))).nothing s }
-asks_load w offset ty _ = asks_stop (stuck w)
-
-pub asks_load_small : (w : Setting) (offset : ArchitectureSize) (ty : SmallType) (v : Val) → AsksNothing (load_small w offset ty v)
-asks_load_small w offset ty (val.Word (word.Pointer address)) =
-    record { nothing = λ s. (asks_or_stop (failed w trap.Pointer) (option_map val.Word (loaded_small ty (address + bytes_at offset 4) s.heap.blocks))).nothing s }
-asks_load_small w offset ty _ = asks_stop (stuck w)
+-- what looks at the memory or changes it
 
 asks_kept : (w : Setting) (o : Option (List Block)) → AsksNothing (or_stop (stuck w) o >>= keep_blocks)
 asks_kept w None = asks_stop (stuck w)
 asks_kept w (Some blocks) = record { nothing = λ s. record { calls = refl; requests = refl } }
 
-asks_written : (w : Setting) (ty : WasmType) (address : ℕ) (o : Option Word) → AsksNothing (write_word w ty address o)
-asks_written w ty address None = asks_stop (stuck w)
-asks_written w ty address (Some x) = record { nothing = λ s. (asks_kept w (stored ty address x s.heap.blocks)).nothing s }
+asks_removed : (e : Stop) (address size : ℕ) (o : Option Block) → AsksNothing (or_stop e o >> turn (removed address size))
+asks_removed e address size None = asks_stop e
+asks_removed e address size (Some b) = record { nothing = λ s. record { calls = refl; requests = refl } }
 
-pub asks_store : (w : Setting) (offset : ArchitectureSize) (ty : WasmType) (v at : Val) → AsksNothing (store_word w offset ty v at)
-asks_store w offset ty v (val.Word (word.Pointer address)) = asks_written w ty (address + bytes_at offset 4) (word_of ty v)
-asks_store w offset ty v _ = asks_stop (stuck w)
-
-asks_small_written : (w : Setting) (ty : SmallType) (address : ℕ) (o : Option ℤ) → AsksNothing (write_small w ty address o)
-asks_small_written w ty address None = asks_stop (stuck w)
-asks_small_written w ty address (Some z) = record { nothing = λ s. (asks_kept w (stored_small ty address z s.heap.blocks)).nothing s }
-
-pub asks_store_small : (w : Setting) (offset : ArchitectureSize) (ty : SmallType) (v at : Val) → AsksNothing (store_small w offset ty v at)
-asks_store_small w offset ty v (val.Word (word.Pointer address)) = asks_small_written w ty (address + bytes_at offset 4) (integer_of v)
-asks_store_small w offset ty v _ = asks_stop (stuck w)
+asks_acts : (w : Setting) → Acts w (λ A act. AsksNothing act)
+asks_acts w = record {
+  gives = λ A a. asks_pure a;
+  stops = λ A e. asks_stop e;
+  follows = λ A B act f. asks_then act f;
+  finds = λ e address n. record { nothing = λ s. (asks_or_stop e (untaken address (suc n) s)).nothing s };
+  tells = λ e address size. record { nothing = λ s. (asks_or_stop e (owned_bytes address size s)).nothing s };
+  owns = λ address. record { nothing = λ s. record { calls = refl; requests = refl } };
+  removes = λ e address n. record { nothing = λ s. (asks_removed e address (suc n) (untaken address (suc n) s)).nothing s };
+  loads = λ e address ty. record { nothing = λ s. (asks_or_stop e (option_map val.Word (loaded ty address s.heap.blocks))).nothing s };
+  loads_small = λ e address ty. record { nothing = λ s. (asks_or_stop e (option_map val.Word (loaded_small ty address s.heap.blocks))).nothing s };
+  stores = λ address ty v x is. record { nothing = λ s. (asks_kept w (stored ty address x s.heap.blocks)).nothing s };
+  stores_small = λ address ty z. record { nothing = λ s. (asks_kept w (stored_small ty address z s.heap.blocks)).nothing s };
+}
 
 -- all inward code
 
@@ -240,13 +172,13 @@ asks_within w = record {
   declares = asks_declare;
   frees = asks_free w;
   releases = asks_release w;
-  deallocates = asks_dealloc w;
-  takes = λ name v. record { nothing = λ s. (asks_take w (value_of (local_named name s.locals)) v).nothing s };
-  lifts = asks_lift_text w;
-  loads = asks_load w;
-  loads_small = asks_load_small w;
-  stores = asks_store w;
-  stores_small = asks_store_small w;
+  deallocates = deallocates w (λ A act. AsksNothing act) (asks_acts w);
+  takes = λ name v. record { nothing = λ s. (takes_bytes w (λ A act. AsksNothing act) (asks_acts w) (value_of (local_named name s.locals)) v).nothing s };
+  lifts = lifts w (λ A act. AsksNothing act) (asks_acts w);
+  loads = loads_word w (λ A act. AsksNothing act) (asks_acts w);
+  loads_small = loads_number w (λ A act. AsksNothing act) (asks_acts w);
+  stores = stores_word w (λ A act. AsksNothing act) (asks_acts w);
+  stores_small = stores_number w (λ A act. AsksNothing act) (asks_acts w);
   scopes = λ A act. asks_scope w act;
   writes = λ name e act h k. asks_writing w name e act h k;
 }

@@ -1,14 +1,11 @@
 -- Code that makes no call ends as it does without the blocks beside its own.
 use Rattle.std.proofs.Common.{◌≡◌, ℕ, zero, suc, ◌+◌, ◌-◌, ◌%◌, ◌^◌, ◌<◌, ◌||◌, ◌&&◌, inl, inr, Bool, true, false, not, cond, List, [], ◌∷◌, ◌++◌, Option, None, Some, length, refl, sym, ap, subst, ◌∙◌, append-nil, append_assoc}
-use Rattle.std.specs.Prelude.{ℤ, drop, filter, find, is_some, nat_eq, nat_le, nat_lt, option_and_then, take}
+use Rattle.std.specs.Prelude.{ℤ, drop, filter, find, is_some, nat_eq, nat_le, option_and_then, take}
 use Rattle.std.specs.List.{list_any}
 use Rattle.std.specs.Option.{option_map}
-use Rattle.std.specs.Str.{is_utf8}
 use Rattle.std.proofs.lemmas.Bool.{and_parts, not-true}
 use Rattle.std.proofs.lemmas.List.{append_cancel_left}
 use Rattle.wit_model.specs.Bytes.{Bytes}
-use Rattle.wit_model.specs.Size as size
-use Rattle.wit_model.specs.declared.size.ArchitectureSize.{ArchitectureSize}
 use Rattle.wit_model.specs.declared.wasm_type.WasmType.{WasmType}
 use Rattle.rust_tree.specs.declared.area.StaticArea.{StaticArea}
 use Rattle.rust_tree.specs.declared.expr.SmallType.{SmallType}
@@ -22,8 +19,6 @@ use Rattle.wrapper_data.specs.declared.choice.Request.{Request}
 use Rattle.wrapper_data.specs.declared.run.CallPoint.{CallPoint}
 use Rattle.wrapper_data.specs.declared.run.Stop.{Stop}
 use Rattle.wrapper_data.specs.declared.run.Stop.TheVariants as stop_of
-use Rattle.wrapper_data.specs.declared.run.TrapKind.TheVariants as trap
-use Rattle.wrapper_data.specs.declared.value.RustValue.TheVariants as value
 use Rattle.wrapper_data.specs.declared.word.Word.{Word}
 use Rattle.wrapper_data.specs.declared.word.Word.TheVariants as word
 use Rattle.wrapper_values.specs.declared.owning.View.{View}
@@ -32,18 +27,19 @@ use Rattle.wrapper_values.specs.declared.state.State.{State}
 use Rattle.wrapper_values.specs.declared.state.Val.{Val}
 use Rattle.wrapper_values.specs.declared.state.Val.TheVariants as val
 use Rattle.wrapper_values.specs.Act.{Act, Outcome, Done, Stopped, ◌>>=◌, ◌>>◌, and_then, or_stop, pure, stop}
-use Rattle.wrapper_run.specs.Blocks.{dealloc, drop_local, drop_locals, free, free_all, free_bytes, free_found, free_untaken, in_scope, keep_blocks, keep_locals, leave_to, lift_buffer, lift_text, own, own_block, owned_block, owned_bytes, owner_of, release, release_found, store_small, store_word, take_over, tested, untaken, write_small, write_word}
-use Rattle.wrapper_values.specs.Effect.{integer_of, is_word_of}
+use Rattle.wrapper_run.specs.Blocks.{drop_local, drop_locals, free, free_all, free_found, in_scope, keep_blocks, keep_locals, leave_to, look, owned_block, owned_bytes, owns, release, release_found, removed, turn, untaken}
+use Rattle.wrapper_values.specs.Effect.{is_word_of, word_of}
 use Rattle.wrapper_run.specs.Growth.{Grows, Longer, state_of}
 use Rattle.wrapper_values.specs.Locals.{ask_local, bind, declare, give_local, lend_local, local_named, slot_with, usable, use_local, used, value_of, write_slot}
 use Rattle.wrapper_run.specs.Memory.{begins_at, block_at, block_from, bytes_at, bytes_from, bytes_of, bytes_of_small, bytes_of_type, holds, is_at, is_inside, loaded, loaded_small, low_bytes, number_from, stored, stored_small, without, word_from, writes_from}
 use Rattle.wrapper_run.specs.OtherBlocks.{Beside, Between, EndsBeside, are_clear, are_held, widened}
-use Rattle.wrapper_values.specs.Owning.{buffer_of, is_taken, lent, owned, owned_in, view}
+use Rattle.wrapper_values.specs.Owning.{is_taken, lent, owned, owned_in, view}
 use Rattle.wrapper_run.specs.Places.{area_block, area_in, is_fitting, place_area, place_at, place_static, request_of, static_place, static_pointer, with_area}
-use Rattle.wrapper_run.specs.Run.{call_import, call_point, load_small, load_word, record_call, take_answer, take_bytes}
-use Rattle.wrapper_values.specs.Setting.{Setting, failed, stuck}
+use Rattle.wrapper_run.specs.Run.{call_import, call_point, record_call, take_answer, take_bytes}
+use Rattle.wrapper_values.specs.Setting.{Setting, stuck}
 use Rattle.wrapper_run.proofs.BesideLemmas.{any_by, apart_others, at_begins, begun_size, between-any, between-behind, between-find, between-given, between-without, bytes-positive, clear_by, found_any, held_misses, meet_at, meet_beginning, meet_holding, misses, none_by, passes_found, placed_clear, sized_begins, small-positive, without_apart, written_beside}
-use Rattle.wrapper_run.proofs.GrowLemmas.{grows_answer, grows_ask, grows_bind, grows_dealloc, grows_declare, grows_free, grows_import, grows_leave, grows_lend, grows_lift_text, grows_load, grows_load_small, grows_place, grows_pure, grows_release, grows_scope, grows_static, grows_static_place, grows_stop, grows_store, grows_store_small, grows_take, grows_then, grows_use, grows_write, longer-same}
+use Rattle.wrapper_run.proofs.Acts.{Acts, deallocates, lifts, loads_number, loads_word, stores_number, stores_word, takes_bytes}
+use Rattle.wrapper_run.proofs.GrowLemmas.{grows_acts, grows_answer, grows_ask, grows_bind, grows_declare, grows_free, grows_import, grows_leave, grows_lend, grows_place, grows_pure, grows_release, grows_scope, grows_static, grows_static_place, grows_stop, grows_then, grows_use, grows_write, longer-same}
 use Rattle.wrapper_run.proofs.StoreLemmas.{length_bytes_of, length_low_bytes}
 use Rattle.wrapper_run.proofs.Walk.{Everywhere}
 
@@ -201,16 +197,31 @@ module _ (others : List Block) (held : List ℕ) (owned_by_others : are_held oth
             apart = apart;
           }
 
-  alike_free_bytes : (w : Setting) (address size : ℕ) → Alike others held (free_bytes w address size)
-  alike_free_bytes w address zero = alike_pure tt
-  alike_free_bytes w address (suc n) = record { alike = λ s blocks taken b c. go s blocks taken b (untaken address (suc n) s) refl }
+  -- what is looked for is there beside others too
+  found_beside : {X : Type 0} (e : Stop) (s : State) (blocks : List Block) (taken : List ℕ) (o p : Option X) → Beside others held s blocks taken → ((x : X) → o ≡ Some x → p ≡ Some x) → EndsBeside others held (or_stop e o s) (or_stop e p (widened blocks taken s))
+  found_beside e s blocks taken None p b h = tt
+  found_beside e s blocks taken (Some x) p b h = inr (blocks, taken, b, ap (λ p. or_stop e p (widened blocks taken s)) (h x refl))
+
+  alike_finds : (e : Stop) (address n : ℕ) → Alike others held (look (untaken address (suc n)) >>= or_stop e)
+  alike_finds e address n = record {
+    alike = λ s blocks taken b c. found_beside e s blocks taken (untaken address (suc n) s) (untaken address (suc n) (widened blocks taken s)) b (λ x h. (untaken_beside s blocks taken address n x b h).same);
+  }
+
+  alike_owns : (address : ℕ) → Alike others held (owns address)
+  alike_owns address =
+      record {
+        alike = λ s blocks taken b c. inr (blocks, taken ++ address ∷ [], record { blocks_between = b.blocks_between; taken_between = between-behind address b.taken_between; clear = b.clear }, refl);
+      }
+
+  alike_removes : (e : Stop) (address n : ℕ) → Alike others held (look (untaken address (suc n)) >>= (λ o. or_stop e o >> turn (removed address (suc n))))
+  alike_removes e address n = record { alike = λ s blocks taken b c. go s blocks taken b (untaken address (suc n) s) refl }
     where
       go : (s : State) (blocks : List Block) (taken : List ℕ) → Beside others held s blocks taken → (o : Option Block) → untaken address (suc n) s ≡ o
-          → EndsBeside others held (free_untaken w address (suc n) o s) (free_untaken w address (suc n) (untaken address (suc n) (widened blocks taken s)) (widened blocks taken s))
-      go s blocks taken b None e = tt
-      go s blocks taken b (Some x) e =
-          let k = untaken_beside s blocks taken address n x b e in
-          subst (λ o. EndsBeside others held (free_untaken w address (suc n) (Some x) s) (free_untaken w address (suc n) o (widened blocks taken s))) (sym k.same)
+          → EndsBeside others held ((or_stop e o >> turn (removed address (suc n))) s) ((or_stop e (untaken address (suc n) (widened blocks taken s)) >> turn (removed address (suc n))) (widened blocks taken s))
+      go s blocks taken b None f = tt
+      go s blocks taken b (Some x) f =
+          let k = untaken_beside s blocks taken address n x b f in
+          subst (λ o. EndsBeside others held ((or_stop e (Some x) >> turn (removed address (suc n))) s) ((or_stop e o >> turn (removed address (suc n))) (widened blocks taken s))) (sym k.same)
           (inr (
             without address (suc n) blocks,
             taken,
@@ -221,39 +232,6 @@ module _ (others : List Block) (held : List ℕ) (owned_by_others : are_held oth
             },
             refl,
           ))
-
-  alike_dealloc : (w : Setting) (address size : ℕ) → Alike others held (dealloc w address size)
-  unfolding dealloc
-  alike_dealloc w address size = alike_if (nat_lt (2 ^ 31 - 1) size) (stop (failed w trap.Size)) (free_bytes w address size) (alike_stop (failed w trap.Size)) (alike_free_bytes w address size)
-
-  alike_owner : (w : Setting) (p n : ℕ) (o : Option (List ℕ)) → Alike others held (owner_of w p n o)
-  alike_owner w p n None = alike_stop (failed w trap.Pointer)
-  alike_owner w p n (Some bytes) =
-      record {
-        alike = λ s blocks taken b c. inr (blocks, taken ++ p ∷ [], record { blocks_between = b.blocks_between; taken_between = between-behind p b.taken_between; clear = b.clear }, refl);
-      }
-
-  alike_own : (w : Setting) (p n : ℕ) → Alike others held (own w p n)
-  alike_own w p zero = alike_pure (val.Value (value.Buffer p 0 true))
-  alike_own w p (suc n) = record { alike = λ s blocks taken b c. go s blocks taken b (untaken p (suc n) s) refl c }
-    where
-      go : (s : State) (blocks : List Block) (taken : List ℕ) → Beside others held s blocks taken → (o : Option Block) → untaken p (suc n) s ≡ o → (state_of (own_block w p (suc n) o s)).calls ≡ s.calls
-          → EndsBeside others held (own_block w p (suc n) o s) (own_block w p (suc n) (untaken p (suc n) (widened blocks taken s)) (widened blocks taken s))
-      go s blocks taken b None e c = tt
-      go s blocks taken b (Some x) e c =
-          let k = untaken_beside s blocks taken p n x b e in
-          subst (λ o. EndsBeside others held (own_block w p (suc n) (Some x) s) (own_block w p (suc n) o (widened blocks taken s))) (sym k.same)
-          ((alike_owner w p (suc n) (bytes_from x.cells 0 (suc n))).alike s blocks taken b c)
-
-  alike_take_over : (w : Setting) (p n : ℕ) → Alike others held (take_over w p n)
-  unfolding take_over
-  alike_take_over w p n =
-      alike_if (nat_lt (2 ^ 31 - 1) n) (stop (failed w trap.Size)) (cond (nat_eq p 0) (stop (failed w trap.Pointer)) (own w p n)) (alike_stop (failed w trap.Size))
-      (alike_if (nat_eq p 0) (stop (failed w trap.Pointer)) (own w p n) (alike_stop (failed w trap.Pointer)) (alike_own w p n))
-
-  alike_take : (w : Setting) (o : Option Val) (v : Val) → Alike others held (take_bytes w o v)
-  alike_take w (Some (val.Word (word.Length n))) (val.Word (word.Pointer address)) = alike_take_over w address n
-  alike_take w _ _ = alike_stop (stuck w)
 
   -- texts
 
@@ -273,23 +251,10 @@ module _ (others : List Block) (held : List ℕ) (owned_by_others : are_held oth
           (between-any (λ t. nat_eq t address) b.taken_between (held_misses others held address owned_by_others far) ∙ is)
           ∙ ap (option_and_then (λ b. bytes_from b.cells 0 (suc n))) (between-find (is_at address (suc n)) b.blocks_between apart ∙ f) ∙ e
 
-  alike_lift : (w : Setting) (v : Val) (o : Option (ℕ × ℕ × Bool)) → Alike others held (lift_buffer w v o)
-  alike_lift w v (Some (address, size, true)) = record { alike = λ s blocks taken b c. go s blocks taken b (owned_bytes address size s) refl c }
-    where
-      text : (bytes : List ℕ) → Alike others held (tested w v (Some bytes))
-      text bytes = alike_if (is_utf8 bytes) (pure v) (stop (failed w trap.Utf8)) (alike_pure v) (alike_stop (failed w trap.Utf8))
-
-      go : (s : State) (blocks : List Block) (taken : List ℕ) → Beside others held s blocks taken → (o : Option (List ℕ)) → owned_bytes address size s ≡ o → (state_of (tested w v o s)).calls ≡ s.calls
-          → EndsBeside others held (tested w v o s) (tested w v (owned_bytes address size (widened blocks taken s)) (widened blocks taken s))
-      go s blocks taken b None e c = tt
-      go s blocks taken b (Some bytes) e c =
-          subst (λ o. EndsBeside others held (tested w v (Some bytes) s) (tested w v o (widened blocks taken s))) (sym (owned_bytes_beside s blocks taken address size bytes b e))
-          ((text bytes).alike s blocks taken b c)
-  alike_lift w v _ = alike_stop (stuck w)
-
-  alike_lift_text : (w : Setting) (v : Val) → Alike others held (lift_text w v)
-  unfolding lift_text
-  alike_lift_text w v = alike_lift w v (buffer_of v)
+  alike_tells : (e : Stop) (address size : ℕ) → Alike others held (look (owned_bytes address size) >>= or_stop e)
+  alike_tells e address size = record {
+    alike = λ s blocks taken b c. found_beside e s blocks taken (owned_bytes address size s) (owned_bytes address size (widened blocks taken s)) b (λ bytes. owned_bytes_beside s blocks taken address size bytes b);
+  }
 
   -- loads
 
@@ -312,31 +277,27 @@ module _ (others : List Block) (held : List ℕ) (owned_by_others : are_held oth
       go None f e = absurd (cc)
       go (Some bytes) f e = ap (option_map of) (bytes_beside s blocks taken address size bytes pos b f) ∙ e
 
-  -- what is looked for is there beside others too
-  gives_beside : {X : Type 0} (e : Stop) (of : X → Val) (s : State) (blocks : List Block) (taken : List ℕ) (o p : Option X) → Beside others held s blocks taken → ((x : X) → o ≡ Some x → p ≡ Some x)
-      → EndsBeside others held (or_stop e (option_map of o) s) (or_stop e (option_map of p) (widened blocks taken s))
-  gives_beside e of s blocks taken None p b h = tt
-  gives_beside e of s blocks taken (Some x) p b h = inr (blocks, taken, b, ap (λ p. or_stop e (option_map of p) (widened blocks taken s)) (h x refl))
+  -- a word is read of them
+  word_beside : (o p : Option Word) → ((x : Word) → o ≡ Some x → p ≡ Some x) → (v : Val) → option_map val.Word o ≡ Some v → option_map val.Word p ≡ Some v
+  word_beside None p h v e = absurd (cc)
+  word_beside (Some x) p h v e = ap (option_map val.Word) (h x refl) ∙ e
 
-  alike_load : (w : Setting) (offset : ArchitectureSize) (ty : WasmType) (v : Val) → Alike others held (load_word w offset ty v)
+  alike_loads : (e : Stop) (place : ℕ) (ty : WasmType) → Alike others held (look (λ s. option_map val.Word (loaded ty place s.heap.blocks)) >>= or_stop e)
   unfolding loaded
-  alike_load w offset ty (val.Word (word.Pointer a)) = record {
+  alike_loads e place ty = record {
     alike = λ s blocks taken b c.
-        let place = a + size.bytes_at offset 4 in
-        gives_beside (failed w trap.Pointer) val.Word s blocks taken (loaded ty place s.heap.blocks) (loaded ty place blocks) b
-        (λ x. read_beside s blocks taken place (bytes_of_type ty) (nat_eq (place % bytes_of_type ty) 0) (word_from ty) x (bytes-positive ty) b);
+        found_beside e s blocks taken (option_map val.Word (loaded ty place s.heap.blocks)) (option_map val.Word (loaded ty place blocks)) b
+        (word_beside (loaded ty place s.heap.blocks) (loaded ty place blocks) (λ x. read_beside s blocks taken place (bytes_of_type ty) (nat_eq (place % bytes_of_type ty) 0) (word_from ty) x (bytes-positive ty) b));
   }
-  alike_load w offset ty _ = alike_stop (stuck w)
 
-  alike_load_small : (w : Setting) (offset : ArchitectureSize) (ty : SmallType) (v : Val) → Alike others held (load_small w offset ty v)
+  alike_loads_small : (e : Stop) (place : ℕ) (ty : SmallType) → Alike others held (look (λ s. option_map val.Word (loaded_small ty place s.heap.blocks)) >>= or_stop e)
   unfolding loaded_small
-  alike_load_small w offset ty (val.Word (word.Pointer a)) = record {
+  alike_loads_small e place ty = record {
     alike = λ s blocks taken b c.
-        let place = a + size.bytes_at offset 4 in
-        gives_beside (failed w trap.Pointer) val.Word s blocks taken (loaded_small ty place s.heap.blocks) (loaded_small ty place blocks) b
-        (λ x. read_beside s blocks taken place (bytes_of_small ty) (nat_eq (place % bytes_of_small ty) 0) (λ bytes. word.I32 (number_from ty bytes)) x (small-positive ty) b);
+        found_beside e s blocks taken (option_map val.Word (loaded_small ty place s.heap.blocks)) (option_map val.Word (loaded_small ty place blocks)) b
+        (word_beside (loaded_small ty place s.heap.blocks) (loaded_small ty place blocks)
+        (λ x. read_beside s blocks taken place (bytes_of_small ty) (nat_eq (place % bytes_of_small ty) 0) (λ bytes. word.I32 (number_from ty bytes)) x (small-positive ty) b));
   }
-  alike_load_small w offset ty _ = alike_stop (stuck w)
 
   -- stores
 
@@ -371,32 +332,27 @@ module _ (others : List Block) (held : List ℕ) (owned_by_others : are_held oth
             ap (λ t. and_then (or_stop (stuck w) (cond t (Some (with_writes blocks (writes_from place bytes))) None) (widened blocks taken s)) keep_blocks) there,
           )
 
-  alike_written : (w : Setting) (ty : WasmType) (place : ℕ) (x : Word) → is_word_of ty x ≡ true → Alike others held (write_word w ty place (Some x))
+  -- a word that a value is, is one of the type
+  word_so : (ty : WasmType) (v : Val) (x : Word) → word_of ty v ≡ Some x → is_word_of ty x ≡ true
+  word_so ty (val.Word y) x e = go (is_word_of ty y) refl e
+    where
+      go : (t : Bool) → is_word_of ty y ≡ t → cond t (Some y) None ≡ Some x → is_word_of ty x ≡ true
+      go true is e = let same : y ≡ x = cc in ap (is_word_of ty) (sym same) ∙ is
+      go false is e = absurd (cc)
+  word_so ty (val.Value r) x e = absurd (cc)
+  word_so ty (val.Area b n) x e = absurd (cc)
+
+  alike_stores : (w : Setting) (place : ℕ) (ty : WasmType) (v : Val) (x : Word) → word_of ty v ≡ Some x → Alike others held (look (λ s. stored ty place x s.heap.blocks) >>= or_stop (stuck w) >>= keep_blocks)
   unfolding stored
-  alike_written w ty place x is = record {
-    alike = λ s blocks taken b c. written w s blocks taken place (bytes_of_type ty) (nat_eq (place % bytes_of_type ty) 0) (bytes_of x) (bytes-positive ty) (length_bytes_of ty x is) b;
+  alike_stores w place ty v x is = record {
+    alike = λ s blocks taken b c. written w s blocks taken place (bytes_of_type ty) (nat_eq (place % bytes_of_type ty) 0) (bytes_of x) (bytes-positive ty) (length_bytes_of ty x (word_so ty v x is)) b;
   }
 
-  alike_store : (w : Setting) (offset : ArchitectureSize) (ty : WasmType) (v at : Val) → Alike others held (store_word w offset ty v at)
-  alike_store w offset ty (val.Word x) (val.Word (word.Pointer a)) = go (is_word_of ty x) refl
-    where
-      go : (t : Bool) → is_word_of ty x ≡ t → Alike others held (write_word w ty (a + size.bytes_at offset 4) (cond t (Some x) None))
-      go true is = alike_written w ty (a + size.bytes_at offset 4) x is
-      go false is = alike_stop (stuck w)
-  alike_store w offset ty (val.Value r) (val.Word (word.Pointer a)) = alike_stop (stuck w)
-  alike_store w offset ty (val.Area b n) (val.Word (word.Pointer a)) = alike_stop (stuck w)
-  alike_store w offset ty v _ = alike_stop (stuck w)
-
-  alike_small_written : (w : Setting) (ty : SmallType) (place : ℕ) (o : Option ℤ) → Alike others held (write_small w ty place o)
+  alike_stores_small : (w : Setting) (place : ℕ) (ty : SmallType) (z : ℤ) → Alike others held (look (λ s. stored_small ty place z s.heap.blocks) >>= or_stop (stuck w) >>= keep_blocks)
   unfolding stored_small
-  alike_small_written w ty place None = alike_stop (stuck w)
-  alike_small_written w ty place (Some z) = record {
+  alike_stores_small w place ty z = record {
     alike = λ s blocks taken b c. written w s blocks taken place (bytes_of_small ty) (nat_eq (place % bytes_of_small ty) 0) (low_bytes ty z) (small-positive ty) (length_low_bytes ty z) b;
   }
-
-  alike_store_small : (w : Setting) (offset : ArchitectureSize) (ty : SmallType) (v at : Val) → Alike others held (store_small w offset ty v at)
-  alike_store_small w offset ty v (val.Word (word.Pointer a)) = alike_small_written w ty (a + size.bytes_at offset 4) (integer_of v)
-  alike_store_small w offset ty v _ = alike_stop (stuck w)
 
   -- areas
 
@@ -550,6 +506,27 @@ module _ (others : List Block) (held : List ℕ) (owned_by_others : are_held oth
       alike_leaving : {A : Type 0} (s : State) (a : A) → Alike others held (leave_to w (length s.locals) >> pure a)
       alike_leaving s a = alike_then (leave_to w (length s.locals)) (λ _. pure a) (grows_leave w (length s.locals)) (λ _. grows_pure a) (alike_leave w (length s.locals)) (λ _. alike_pure a)
 
+  frames_acts : (w : Setting) → Acts w Frames
+  frames_acts w =
+      let g = grows_acts w in
+      record {
+        gives = λ A a. (grows_pure a, alike_pure a);
+        stops = λ A e. (grows_stop e, alike_stop e);
+        follows = λ A B act f. frames_then act f;
+        finds = λ e address n. (g.finds e address n, alike_finds e address n);
+        tells = λ e address size. (g.tells e address size, alike_tells e address size);
+        owns = λ address. (g.owns address, alike_owns address);
+        removes = λ e address n. (g.removes e address n, alike_removes e address n);
+        loads = λ e address ty. (g.loads e address ty, alike_loads e address ty);
+        loads_small = λ e address ty. (g.loads_small e address ty, alike_loads_small e address ty);
+        stores = λ address ty v x is. (g.stores address ty v x is, alike_stores w address ty v x is);
+        stores_small = λ address ty z. (g.stores_small address ty z, alike_stores_small w address ty z);
+      }
+
+  -- the length is that of a local
+  taken : (w : Setting) (name : Bytes) (v : Val) (s : State) → Frames Val (take_bytes w (value_of (local_named name s.locals)) v)
+  taken w name v s = takes_bytes w Frames (frames_acts w) (value_of (local_named name s.locals)) v
+
   pub frames_everywhere : (w : Setting) (known : Bytes → Bool) → Everywhere w known Frames
   frames_everywhere w known = record {
     gives = λ A a. (grows_pure a, alike_pure a);
@@ -562,13 +539,13 @@ module _ (others : List Block) (held : List ℕ) (owned_by_others : are_held oth
     declares = λ d. (grows_declare d, alike_declare d);
     frees = λ address. (grows_free w address, alike_free w address);
     releases = λ address. (grows_release w address, alike_release w address);
-    deallocates = λ address size. (grows_dealloc w address size, alike_dealloc w address size);
-    takes = λ name v _. (record { grows = λ s. (grows_take w (value_of (local_named name s.locals)) v).grows s }, record { alike = λ s. (alike_take w (value_of (local_named name s.locals)) v).alike s });
-    lifts = λ v. (grows_lift_text w v, alike_lift_text w v);
-    loads = λ offset ty v. (grows_load w offset ty v, alike_load w offset ty v);
-    loads_small = λ offset ty v. (grows_load_small w offset ty v, alike_load_small w offset ty v);
-    stores = λ offset ty v at. (grows_store w offset ty v at, alike_store w offset ty v at);
-    stores_small = λ offset ty v at. (grows_store_small w offset ty v at, alike_store_small w offset ty v at);
+    deallocates = deallocates w Frames (frames_acts w);
+    takes = λ name v k. (record { grows = λ s. (taken w name v s).0.grows s }, record { alike = λ s. (taken w name v s).1.alike s });
+    lifts = lifts w Frames (frames_acts w);
+    loads = loads_word w Frames (frames_acts w);
+    loads_small = loads_number w Frames (frames_acts w);
+    stores = stores_word w Frames (frames_acts w);
+    stores_small = stores_number w Frames (frames_acts w);
     places = λ r. (grows_place w r, alike_place w r);
     static = (grows_static w, alike_static w);
     calls = λ name vs _. (grows_import w name vs, alike_import w name vs);

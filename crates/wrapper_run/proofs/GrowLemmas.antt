@@ -1,18 +1,14 @@
 -- Along a run calls and requests only grow: whatever the code is, those that a state has are the first of those that it comes to.
-use Rattle.std.proofs.Common.{◌≡◌, ℕ, zero, suc, ◌+◌, ◌-◌, ◌^◌, ◌||◌, Bool, true, false, cond, List, [], ◌∷◌, ◌++◌, map, drop, take, length, Option, None, Some, refl, sym, ap, ◌∙◌, append-nil, append_assoc}
-use Rattle.std.specs.Prelude.{ℤ, nat_eq, nat_lt, option_and_then}
+use Rattle.std.proofs.Common.{◌≡◌, ℕ, suc, ◌||◌, Bool, true, false, cond, List, [], ◌∷◌, ◌++◌, map, drop, take, length, Option, None, Some, refl, sym, ap, ◌∙◌, append-nil, append_assoc}
+use Rattle.std.specs.Prelude.{nat_eq, option_and_then}
 use Rattle.std.specs.Option.{option_map}
-use Rattle.std.specs.Str.{is_utf8}
 use Rattle.wit_model.specs.Bytes.{Bytes}
-use Rattle.wit_model.specs.Size.{bytes_at}
-use Rattle.wit_model.specs.declared.size.ArchitectureSize.{ArchitectureSize}
 use Rattle.wit_model.specs.declared.wasm_type.WasmType.{WasmType}
 use Rattle.rust_tree.specs.declared.area.StaticArea.{StaticArea}
 use Rattle.rust_tree.specs.declared.export.CallBlock.{CallBlock}
 use Rattle.rust_tree.specs.declared.export.CoreParam.{CoreParam}
 use Rattle.rust_tree.specs.declared.export.ExportFn.{ExportFn}
 use Rattle.rust_tree.specs.declared.expr.Expr.{Expr}
-use Rattle.rust_tree.specs.declared.expr.SmallType.{SmallType}
 use Rattle.rust_tree.specs.declared.item.FnItem.{FnItem}
 use Rattle.rust_tree.specs.declared.stmt.Block.{Block as Code}
 use Rattle.rust_tree.specs.declared.stmt.ImportDecl.{ImportDecl}
@@ -28,8 +24,6 @@ use Rattle.wrapper_data.specs.declared.choice.Request.{Request}
 use Rattle.wrapper_data.specs.declared.run.CallPoint.{CallPoint}
 use Rattle.wrapper_data.specs.declared.run.Stop.{Stop}
 use Rattle.wrapper_data.specs.declared.run.Stop.TheVariants as stop_of
-use Rattle.wrapper_data.specs.declared.run.TrapKind.TheVariants as trap
-use Rattle.wrapper_data.specs.declared.value.RustValue.TheVariants as value
 use Rattle.wrapper_data.specs.declared.word.Word.{Word}
 use Rattle.wrapper_data.specs.declared.word.Word.TheVariants as word
 use Rattle.wrapper_values.specs.declared.owning.View.{View}
@@ -38,18 +32,18 @@ use Rattle.wrapper_values.specs.declared.state.State.{State}
 use Rattle.wrapper_values.specs.declared.state.Val.{Val}
 use Rattle.wrapper_values.specs.declared.state.Val.TheVariants as val
 use Rattle.wrapper_values.specs.Act.{Act, Outcome, Done, Stopped, ◌>>=◌, ◌>>◌, all, and_then, or_stop, pure, stop}
-use Rattle.wrapper_run.specs.Blocks.{dealloc, drop_local, drop_locals, drop_value, free, free_all, free_bytes, free_found, free_untaken, in_scope, keep_blocks, keep_locals, leave_to, lift_buffer, lift_text, own, own_block, owned_block, owned_bytes, owner_of, release, release_found, store_small, store_word, take_over, tested, untaken, write_small, write_word}
-use Rattle.wrapper_values.specs.Effect.{integer_of, word_of}
+use Rattle.wrapper_run.specs.Blocks.{drop_local, drop_locals, drop_value, free, free_all, free_found, in_scope, keep_blocks, keep_locals, leave_to, owned_block, owned_bytes, release, release_found, removed, turn, untaken}
 use Rattle.wrapper_run.specs.ExportRun.{call_inside, call_method, call_with, core_answer, expect_words, keep_result, method_answer, method_call, returned_of, run_call, run_export_fn, run_to_words, take_value, are_words_of}
 use Rattle.wrapper_values.specs.Locals.{ask_local, bind, declare, give_local, lend_local, local_named, slot_with, usable, use_local, used, value_of, write_slot}
-use Rattle.wrapper_run.specs.Memory.{bytes_from, loaded, loaded_small, stored, stored_small}
-use Rattle.wrapper_values.specs.Owning.{buffer_of, lent, listed, owned, owned_in, taken_by, view}
+use Rattle.wrapper_run.specs.Memory.{loaded, loaded_small, stored, stored_small}
+use Rattle.wrapper_values.specs.Owning.{lent, listed, owned, owned_in, taken_by, view}
 use Rattle.wrapper_run.specs.Places.{area_in, is_fitting, place_area, place_at, place_static, request_of, static_place, static_pointer, with_area}
 use Rattle.wrapper_run.specs.Results.{run_inner, run_results}
-use Rattle.wrapper_run.specs.Run.{answer_act, answer_and_leave, call_import, call_point, eval, give_and_leave, load_small, load_word, record_call, result_of, run_block, run_fn, run_stmts, take_answer, take_bytes}
-use Rattle.wrapper_values.specs.Setting.{Setting, failed, stuck}
+use Rattle.wrapper_run.specs.Run.{answer_act, answer_and_leave, call_import, call_point, eval, give_and_leave, record_call, result_of, run_block, run_fn, run_stmts, take_answer}
+use Rattle.wrapper_values.specs.Setting.{Setting, stuck}
 use Rattle.wrapper_values.specs.Typed.{answer_in}
 use Rattle.wrapper_run.specs.Growth.{Grows, Longer, state_of}
+use Rattle.wrapper_run.proofs.Acts.{Acts, deallocates, lifts, loads_number, loads_word, stores_number, stores_word, takes_bytes}
 use Rattle.wrapper_run.proofs.Walk.{Everywhere, known_block, known_expr, known_stmts, walks_block, walks_expr, walks_stmts, walks_given}
 
 -- states
@@ -153,57 +147,30 @@ pub grows_release : (w : Setting) (address : ℕ) → Grows (release w address)
 unfolding release
 grows_release w address = record { grows = λ s. (grows_released w address (owned_block address s)).grows s }
 
-grows_free_bytes : (w : Setting) (address size : ℕ) → Grows (free_bytes w address size)
-grows_free_bytes w address zero = grows_pure tt
-grows_free_bytes w address (suc n) = record { grows = λ s. (go (untaken address (suc n) s)).grows s }
-  where
-    go : (o : Option Block) → Grows (free_untaken w address (suc n) o)
-    go None = grows_stop (failed w trap.Block)
-    go (Some b) = record { grows = λ s. longer-same s _ refl refl }
+-- what looks at the memory or changes it
 
-grows_if : {A : Type 0} (b : Bool) (p q : Act A) → Grows p → Grows q → Grows (cond b p q)
-grows_if true p q h k = h
-grows_if false p q h k = k
+grows_kept : (w : Setting) (o : Option (List Block)) → Grows (or_stop (stuck w) o >>= keep_blocks)
+grows_kept w None = grows_stop (stuck w)
+grows_kept w (Some blocks) = record { grows = λ s. longer-same s _ refl refl }
 
-pub grows_dealloc : (w : Setting) (address size : ℕ) → Grows (dealloc w address size)
-unfolding dealloc
-grows_dealloc w address size = grows_if (nat_lt (2 ^ 31 - 1) size) (stop (failed w trap.Size)) (free_bytes w address size) (grows_stop (failed w trap.Size)) (grows_free_bytes w address size)
+grows_removed : (e : Stop) (address size : ℕ) (o : Option Block) → Grows (or_stop e o >> turn (removed address size))
+grows_removed e address size None = grows_stop e
+grows_removed e address size (Some b) = record { grows = λ s. longer-same s _ refl refl }
 
--- blocks that come in
-
-grows_owner : (w : Setting) (p n : ℕ) (o : Option (List ℕ)) → Grows (owner_of w p n o)
-grows_owner w p n None = grows_stop (failed w trap.Pointer)
-grows_owner w p n (Some bytes) = record { grows = λ s. longer-same s _ refl refl }
-
-grows_block : (w : Setting) (p n : ℕ) (o : Option Block) → Grows (own_block w p n o)
-grows_block w p n None = grows_stop (failed w trap.Block)
-grows_block w p n (Some b) = grows_owner w p n (bytes_from b.cells 0 n)
-
-grows_own : (w : Setting) (p n : ℕ) → Grows (own w p n)
-grows_own w p zero = grows_pure (val.Value (value.Buffer p 0 true))
-grows_own w p (suc n) = record { grows = λ s. (grows_block w p (suc n) (untaken p (suc n) s)).grows s }
-
-grows_take_over : (w : Setting) (p n : ℕ) → Grows (take_over w p n)
-unfolding take_over
-grows_take_over w p n =
-    grows_if (nat_lt (2 ^ 31 - 1) n) (stop (failed w trap.Size)) (cond (nat_eq p 0) (stop (failed w trap.Pointer)) (own w p n)) (grows_stop (failed w trap.Size))
-    (grows_if (nat_eq p 0) (stop (failed w trap.Pointer)) (own w p n) (grows_stop (failed w trap.Pointer)) (grows_own w p n))
-
-pub grows_take : (w : Setting) (o : Option Val) (v : Val) → Grows (take_bytes w o v)
-grows_take w (Some (val.Word (word.Length n))) (val.Word (word.Pointer address)) = grows_take_over w address n
-grows_take w _ _ = grows_stop (stuck w)
-
-grows_tested : (w : Setting) (v : Val) (o : Option (List ℕ)) → Grows (tested w v o)
-grows_tested w v None = grows_stop (stuck w)
-grows_tested w v (Some bytes) = grows_if (is_utf8 bytes) (pure v) (stop (failed w trap.Utf8)) (grows_pure v) (grows_stop (failed w trap.Utf8))
-
-grows_lift : (w : Setting) (v : Val) (o : Option (ℕ × ℕ × Bool)) → Grows (lift_buffer w v o)
-grows_lift w v (Some (address, size, true)) = record { grows = λ s. (grows_tested w v (owned_bytes address size s)).grows s }
-grows_lift w v _ = grows_stop (stuck w)
-
-pub grows_lift_text : (w : Setting) (v : Val) → Grows (lift_text w v)
-unfolding lift_text
-grows_lift_text w v = grows_lift w v (buffer_of v)
+pub grows_acts : (w : Setting) → Acts w (λ A act. Grows act)
+grows_acts w = record {
+  gives = λ A a. grows_pure a;
+  stops = λ A e. grows_stop e;
+  follows = λ A B act f. grows_then act f;
+  finds = λ e address n. record { grows = λ s. (grows_or_stop e (untaken address (suc n) s)).grows s };
+  tells = λ e address size. record { grows = λ s. (grows_or_stop e (owned_bytes address size s)).grows s };
+  owns = λ address. record { grows = λ s. longer-same s _ refl refl };
+  removes = λ e address n. record { grows = λ s. (grows_removed e address (suc n) (untaken address (suc n) s)).grows s };
+  loads = λ e address ty. record { grows = λ s. (grows_or_stop e (option_map val.Word (loaded ty address s.heap.blocks))).grows s };
+  loads_small = λ e address ty. record { grows = λ s. (grows_or_stop e (option_map val.Word (loaded_small ty address s.heap.blocks))).grows s };
+  stores = λ address ty v x is. record { grows = λ s. (grows_kept w (stored ty address x s.heap.blocks)).grows s };
+  stores_small = λ address ty z. record { grows = λ s. (grows_kept w (stored_small ty address z s.heap.blocks)).grows s };
+}
 
 -- calls
 
@@ -259,38 +226,6 @@ pub grows_static : (w : Setting) → Grows (static_pointer w)
 unfolding static_pointer
 grows_static w = record { grows = λ s. (grows_then (static_place w s.place) (λ address. pure (val.Word (word.Pointer address))) (grows_static_place w s.place) (λ address. grows_pure (val.Word (word.Pointer address)))).grows s }
 
--- loads, stores, and values with parts
-
-pub grows_load : (w : Setting) (offset : ArchitectureSize) (ty : WasmType) (v : Val) → Grows (load_word w offset ty v)
-grows_load w offset ty (val.Word (word.Pointer address)) =
-    record { grows = λ s. (grows_or_stop (failed w trap.Pointer) (option_map val.Word (loaded ty (address + bytes_at offset 4) s.heap.blocks))).grows s }
-grows_load w offset ty _ = grows_stop (stuck w)
-
-pub grows_load_small : (w : Setting) (offset : ArchitectureSize) (ty : SmallType) (v : Val) → Grows (load_small w offset ty v)
-grows_load_small w offset ty (val.Word (word.Pointer address)) =
-    record { grows = λ s. (grows_or_stop (failed w trap.Pointer) (option_map val.Word (loaded_small ty (address + bytes_at offset 4) s.heap.blocks))).grows s }
-grows_load_small w offset ty _ = grows_stop (stuck w)
-
-grows_kept : (w : Setting) (o : Option (List Block)) → Grows (or_stop (stuck w) o >>= keep_blocks)
-grows_kept w None = grows_stop (stuck w)
-grows_kept w (Some blocks) = record { grows = λ s. longer-same s _ refl refl }
-
-grows_written : (w : Setting) (ty : WasmType) (address : ℕ) (o : Option Word) → Grows (write_word w ty address o)
-grows_written w ty address None = grows_stop (stuck w)
-grows_written w ty address (Some x) = record { grows = λ s. (grows_kept w (stored ty address x s.heap.blocks)).grows s }
-
-pub grows_store : (w : Setting) (offset : ArchitectureSize) (ty : WasmType) (v at : Val) → Grows (store_word w offset ty v at)
-grows_store w offset ty v (val.Word (word.Pointer address)) = grows_written w ty (address + bytes_at offset 4) (word_of ty v)
-grows_store w offset ty v _ = grows_stop (stuck w)
-
-grows_small_written : (w : Setting) (ty : SmallType) (address : ℕ) (o : Option ℤ) → Grows (write_small w ty address o)
-grows_small_written w ty address None = grows_stop (stuck w)
-grows_small_written w ty address (Some z) = record { grows = λ s. (grows_kept w (stored_small ty address z s.heap.blocks)).grows s }
-
-pub grows_store_small : (w : Setting) (offset : ArchitectureSize) (ty : SmallType) (v at : Val) → Grows (store_small w offset ty v at)
-grows_store_small w offset ty v (val.Word (word.Pointer address)) = grows_small_written w ty (address + bytes_at offset 4) (integer_of v)
-grows_store_small w offset ty v _ = grows_stop (stuck w)
-
 -- scopes, and all code
 
 pub grows_scope : {A : Type 0} (w : Setting) (act : Act A) → Grows act → Grows (in_scope w act)
@@ -311,13 +246,13 @@ grows_everywhere w known = record {
   declares = grows_declare;
   frees = grows_free w;
   releases = grows_release w;
-  deallocates = grows_dealloc w;
-  takes = λ name v _. record { grows = λ s. (grows_take w (value_of (local_named name s.locals)) v).grows s };
-  lifts = grows_lift_text w;
-  loads = grows_load w;
-  loads_small = grows_load_small w;
-  stores = grows_store w;
-  stores_small = grows_store_small w;
+  deallocates = deallocates w (λ A act. Grows act) (grows_acts w);
+  takes = λ name v _. record { grows = λ s. (takes_bytes w (λ A act. Grows act) (grows_acts w) (value_of (local_named name s.locals)) v).grows s };
+  lifts = lifts w (λ A act. Grows act) (grows_acts w);
+  loads = loads_word w (λ A act. Grows act) (grows_acts w);
+  loads_small = loads_number w (λ A act. Grows act) (grows_acts w);
+  stores = stores_word w (λ A act. Grows act) (grows_acts w);
+  stores_small = stores_number w (λ A act. Grows act) (grows_acts w);
   places = grows_place w;
   static = grows_static w;
   calls = λ name vs _. grows_import w name vs;

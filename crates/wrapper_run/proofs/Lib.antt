@@ -1,3 +1,4 @@
+pub mod Acts
 pub mod Apart
 pub mod AskLemmas
 pub mod BesideActs

@@ -27,7 +27,8 @@ use Rattle.wrapper_run.specs.Inward.{is_inward}
 use Rattle.wrapper_run.specs.OuterLocals.{EndsBehind, IsBehind, IsInReach, OwnNothing, RunsBehind, behind_all}
 use Rattle.wrapper_run.specs.Results.{run_inner, run_results}
 use Rattle.wrapper_run.specs.Run.{eval, load_small, load_word, run_block, take_bytes}
-use Rattle.wrapper_run.proofs.Apart.{Apart, apart_dealloc, apart_declare, apart_free, apart_lift_text, apart_load, apart_load_small, apart_pure, apart_release, apart_stop, apart_store, apart_store_small, apart_take, apart_then, with_both}
+use Rattle.wrapper_run.proofs.Acts.{deallocates, lifts, loads_number, loads_word, stores_number, stores_word, takes_bytes}
+use Rattle.wrapper_run.proofs.Apart.{Apart, apart_acts, apart_declare, apart_free, apart_pure, apart_release, apart_stop, apart_then, with_both}
 use Rattle.wrapper_run.proofs.InwardWalk.{Within, walks_block, walks_given}
 use Rattle.wrapper_run.proofs.LocalLemmas.{bytes_eq-same, option_or-None, option_or-assoc}
 use Rattle.wrapper_run.proofs.OwningLemmas.{drops_plain}
@@ -140,7 +141,7 @@ unfolding ask_local
 behind_ask w of name = behind_read w name (λ o. or_stop (stuck w) (option_map val.Word (option_and_then (view of) o))) (λ s. refl) (λ v. behind_or_stop (stuck w) (option_map val.Word (view of v)))
 
 behind_take : (w : Setting) (name : Bytes) (v : Val) → RunsBehind (λ s. take_bytes w (value_of (local_named name s.locals)) v s)
-behind_take w name v = behind_read w name (λ o. take_bytes w o v) (λ s. refl) (λ u. behind_apart (take_bytes w (Some u) v) (apart_take w (Some u) v))
+behind_take w name v = behind_read w name (λ o. take_bytes w o v) (λ s. refl) (λ u. behind_apart (take_bytes w (Some u) v) (takes_bytes w (λ A act. Apart act) (apart_acts w) (Some u) v))
 
 -- a value is used: what owns something is moved out of a local that stands behind them
 behind_use : (w : Setting) (name : Bytes) → RunsBehind (use_local (stuck w) name)
@@ -324,13 +325,13 @@ behind_within w = record {
   declares = λ d. behind_apart (declare d) (apart_declare d);
   frees = λ address. behind_apart (free w address) (apart_free w address);
   releases = λ address. behind_apart (release w address) (apart_release w address);
-  deallocates = λ address size. behind_apart (dealloc w address size) (apart_dealloc w address size);
+  deallocates = λ address size. behind_apart (dealloc w address size) (deallocates w (λ A act. Apart act) (apart_acts w) address size);
   takes = behind_take w;
-  lifts = λ v. behind_apart (lift_text w v) (apart_lift_text w v);
-  loads = λ offset ty v. behind_apart (load_word w offset ty v) (apart_load w offset ty v);
-  loads_small = λ offset ty v. behind_apart (load_small w offset ty v) (apart_load_small w offset ty v);
-  stores = λ offset ty v at. behind_apart (store_word w offset ty v at) (apart_store w offset ty v at);
-  stores_small = λ offset ty v at. behind_apart (store_small w offset ty v at) (apart_store_small w offset ty v at);
+  lifts = λ v. behind_apart (lift_text w v) (lifts w (λ A act. Apart act) (apart_acts w) v);
+  loads = λ offset ty v. behind_apart (load_word w offset ty v) (loads_word w (λ A act. Apart act) (apart_acts w) offset ty v);
+  loads_small = λ offset ty v. behind_apart (load_small w offset ty v) (loads_number w (λ A act. Apart act) (apart_acts w) offset ty v);
+  stores = λ offset ty v at. behind_apart (store_word w offset ty v at) (stores_word w (λ A act. Apart act) (apart_acts w) offset ty v at);
+  stores_small = λ offset ty v at. behind_apart (store_small w offset ty v at) (stores_number w (λ A act. Apart act) (apart_acts w) offset ty v at);
   scopes = λ A act. behind_scope w act;
   writes = behind_writing w;
 }

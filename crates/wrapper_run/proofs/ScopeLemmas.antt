@@ -26,7 +26,8 @@ use Rattle.wrapper_run.specs.Results.{run_inner, run_results}
 use Rattle.wrapper_run.specs.Run.{call_import, call_point, eval, load_small, load_word, run_block, take_bytes}
 use Rattle.wrapper_values.specs.Setting.{Setting, stuck}
 use Rattle.wrapper_run.specs.UnusedLocals.{DoneIgnoresOthers, is_block_known, known_locals, narrowed, narrowed_end, other_locals}
-use Rattle.wrapper_run.proofs.UnusedLemmas.{Aside, aside_call, aside_dealloc, aside_declare, aside_free, aside_lift_text, aside_load, aside_load_small, aside_or_stop, aside_place, aside_pure, aside_release, aside_static, aside_stop, aside_store, aside_store_small, aside_take, aside_then, call_with, IgnoresOthers, ignores_aside, ignores_ask, ignores_bind, ignores_import, ignores_lend, ignores_take, ignores_use, ignores_write, unchanged}
+use Rattle.wrapper_run.proofs.Acts.{deallocates, lifts, loads_number, loads_word, stores_number, stores_word, takes_bytes}
+use Rattle.wrapper_run.proofs.UnusedLemmas.{Aside, IgnoresOthers, aside_acts, aside_call, aside_declare, aside_free, aside_or_stop, aside_place, aside_pure, aside_release, aside_static, aside_stop, aside_then, call_with, ignores_aside, ignores_ask, ignores_bind, ignores_import, ignores_lend, ignores_take, ignores_use, ignores_write, unchanged}
 use Rattle.wrapper_run.proofs.Walk.{Everywhere, known_expr, walks_block, walks_expr, walks_given}
 
 -- 1. Locals are added at the end, and keep their names
@@ -276,14 +277,14 @@ scoped_everywhere w known = record {
   declares = λ d. scoped_aside known (declare d) (aside_declare d);
   frees = λ address. scoped_aside known (free w address) (aside_free w address);
   releases = λ address. scoped_aside known (release w address) (aside_release w address);
-  deallocates = λ address size. scoped_aside known (dealloc w address size) (aside_dealloc w address size);
+  deallocates = λ address size. scoped_aside known (dealloc w address size) (deallocates w (λ A act. Aside act) (aside_acts w) address size);
   takes = λ name v k.
-      scoped known (λ s. take_bytes w (value_of (local_named name s.locals)) v s) (adds_named name (λ o. take_bytes w (value_of o) v) (λ o. adds_aside (take_bytes w (value_of o) v) (aside_take w (value_of o) v))) (ignores_take w known name v k);
-  lifts = λ v. scoped_aside known (lift_text w v) (aside_lift_text w v);
-  loads = λ offset ty v. scoped_aside known (load_word w offset ty v) (aside_load w offset ty v);
-  loads_small = λ offset ty v. scoped_aside known (load_small w offset ty v) (aside_load_small w offset ty v);
-  stores = λ offset ty v at. scoped_aside known (store_word w offset ty v at) (aside_store w offset ty v at);
-  stores_small = λ offset ty v at. scoped_aside known (store_small w offset ty v at) (aside_store_small w offset ty v at);
+      scoped known (λ s. take_bytes w (value_of (local_named name s.locals)) v s) (adds_named name (λ o. take_bytes w (value_of o) v) (λ o. adds_aside (take_bytes w (value_of o) v) (takes_bytes w (λ A act. Aside act) (aside_acts w) (value_of o) v))) (ignores_take w known name v k);
+  lifts = λ v. scoped_aside known (lift_text w v) (lifts w (λ A act. Aside act) (aside_acts w) v);
+  loads = λ offset ty v. scoped_aside known (load_word w offset ty v) (loads_word w (λ A act. Aside act) (aside_acts w) offset ty v);
+  loads_small = λ offset ty v. scoped_aside known (load_small w offset ty v) (loads_number w (λ A act. Aside act) (aside_acts w) offset ty v);
+  stores = λ offset ty v at. scoped_aside known (store_word w offset ty v at) (stores_word w (λ A act. Aside act) (aside_acts w) offset ty v at);
+  stores_small = λ offset ty v at. scoped_aside known (store_small w offset ty v at) (stores_number w (λ A act. Aside act) (aside_acts w) offset ty v at);
   places = λ r. scoped_aside known (place_area w r) (aside_place w r);
   static = scoped_aside known (static_pointer w) (aside_static w);
   calls = λ name vs k. scoped known (call_import w name vs) (adds_import w name vs) (ignores_import w known name vs k);

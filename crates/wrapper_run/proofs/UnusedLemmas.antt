@@ -1,17 +1,14 @@
 -- Code ends as it does without the locals that it does not name, and leaves these as they are: each act does, at known names.
-use Rattle.std.proofs.Common.{◌≡◌, ℕ, zero, suc, ◌+◌, ◌-◌, ◌^◌, ◌||◌, Bool, true, false, not, cond, List, [], ◌∷◌, ◌++◌, Option, None, Some, refl, sym, ap, ◌∙◌, append-nil}
-use Rattle.std.specs.Prelude.{ℤ, nat_eq, nat_lt, option_and_then}
+use Rattle.std.proofs.Common.{◌≡◌, ℕ, zero, suc, ◌||◌, Bool, true, false, not, cond, List, [], ◌∷◌, ◌++◌, Option, None, Some, refl, sym, ap, ◌∙◌, append-nil}
+use Rattle.std.specs.Prelude.{nat_eq, option_and_then}
 use Rattle.std.specs.List.{list_any}
 use Rattle.std.specs.Option.{option_map, option_or}
-use Rattle.std.specs.Str.{bytes_eq, is_utf8}
+use Rattle.std.specs.Str.{bytes_eq}
 use Rattle.std.proofs.lemmas.List.Elements.{filter-append}
 use Rattle.std.proofs.lemmas.Slice.Eq.{bytes_eq-Decides}
 use Rattle.wit_model.specs.Bytes.{Bytes}
-use Rattle.wit_model.specs.Size.{bytes_at}
-use Rattle.wit_model.specs.declared.size.ArchitectureSize.{ArchitectureSize}
 use Rattle.wit_model.specs.declared.wasm_type.WasmType.{WasmType}
 use Rattle.rust_tree.specs.declared.area.StaticArea.{StaticArea}
-use Rattle.rust_tree.specs.declared.expr.SmallType.{SmallType}
 use Rattle.rust_tree.specs.declared.stmt.ImportDecl.{ImportDecl}
 use Rattle.wrapper_data.specs.Answered.{answered}
 use Rattle.wrapper_data.specs.declared.answer.Answer.{Answer}
@@ -23,9 +20,6 @@ use Rattle.wrapper_data.specs.declared.choice.Request.{Request}
 use Rattle.wrapper_data.specs.declared.run.CallPoint.{CallPoint}
 use Rattle.wrapper_data.specs.declared.run.Stop.{Stop}
 use Rattle.wrapper_data.specs.declared.run.Stop.TheVariants as stop_of
-use Rattle.wrapper_data.specs.declared.run.TrapKind.TheVariants as trap
-use Rattle.wrapper_data.specs.declared.value.RustValue.TheVariants as value
-use Rattle.wrapper_data.specs.declared.word.Word.{Word}
 use Rattle.wrapper_data.specs.declared.word.Word.TheVariants as word
 use Rattle.wrapper_values.specs.declared.owning.View.{View}
 use Rattle.wrapper_values.specs.declared.state.Local.{Local}
@@ -33,17 +27,17 @@ use Rattle.wrapper_values.specs.declared.state.State.{State}
 use Rattle.wrapper_values.specs.declared.state.Val.{Val}
 use Rattle.wrapper_values.specs.declared.state.Val.TheVariants as val
 use Rattle.wrapper_values.specs.Act.{Act, Outcome, Done, Stopped, ◌>>=◌, ◌>>◌, and_then, or_stop, pure, stop}
-use Rattle.wrapper_run.specs.Blocks.{dealloc, free, free_bytes, free_found, free_untaken, keep_blocks, lift_buffer, lift_text, own, own_block, owned_block, owned_bytes, owner_of, release, release_found, store_small, store_word, take_over, tested, untaken, write_small, write_word}
-use Rattle.wrapper_values.specs.Effect.{integer_of, word_of}
+use Rattle.wrapper_run.specs.Blocks.{free, free_found, keep_blocks, look, owned_block, owned_bytes, release, release_found, removed, turn, untaken}
 use Rattle.wrapper_run.specs.Growth.{state_of}
 use Rattle.wrapper_values.specs.Locals.{ask_local, bind, changed, declare, give_local, holding, import_named, lend_local, local_named, slot_with, usable, use_local, used, value_of, write_slot}
-use Rattle.wrapper_run.specs.Memory.{bytes_from, loaded, loaded_small, stored, stored_small}
-use Rattle.wrapper_values.specs.Owning.{buffer_of, lent, owned, view}
+use Rattle.wrapper_run.specs.Memory.{loaded, loaded_small, stored, stored_small}
+use Rattle.wrapper_values.specs.Owning.{lent, owned, view}
 use Rattle.wrapper_run.specs.Places.{area_in, is_fitting, place_area, place_at, place_static, request_of, static_place, static_pointer, with_area}
-use Rattle.wrapper_run.specs.Run.{answer_act, call_import, call_point, called_with, load_small, load_word, record_call, result_of, take_answer, take_bytes, unhidden}
-use Rattle.wrapper_values.specs.Setting.{Setting, failed, stuck}
+use Rattle.wrapper_run.specs.Run.{answer_act, call_import, call_point, called_with, record_call, result_of, take_answer, take_bytes, unhidden}
+use Rattle.wrapper_values.specs.Setting.{Setting, stuck}
 use Rattle.wrapper_values.proofs.ChangedLemmas.{changed_none}
 use Rattle.wrapper_run.specs.UnusedLocals.{known_locals, narrowed, narrowed_end, other_locals}
+use Rattle.wrapper_run.proofs.Acts.{Acts, takes_bytes}
 
 -- however it ends, the act ends as it does without the others, and leaves these as they are
 pub record IgnoresOthers {A : Type 0} (known : Bytes → Bool) (act : Act A) : Type 0 where
@@ -119,85 +113,35 @@ pub aside_release : (w : Setting) (address : ℕ) → Aside (release w address)
 unfolding release
 aside_release w address = record { aside = λ s ls. (aside_released w address (owned_block address s)).aside s ls }
 
-aside_free_bytes : (w : Setting) (address size : ℕ) → Aside (free_bytes w address size)
-aside_free_bytes w address zero = aside_pure tt
-aside_free_bytes w address (suc n) = record { aside = λ s ls. (go (untaken address (suc n) s)).aside s ls }
-  where
-    go : (o : Option Block) → Aside (free_untaken w address (suc n) o)
-    go None = aside_stop (failed w trap.Block)
-    go (Some b) = record { aside = λ s ls. refl }
-
-pub aside_dealloc : (w : Setting) (address size : ℕ) → Aside (dealloc w address size)
-unfolding dealloc
-aside_dealloc w address size = aside_if (nat_lt (2 ^ 31 - 1) size) (stop (failed w trap.Size)) (free_bytes w address size) (aside_stop (failed w trap.Size)) (aside_free_bytes w address size)
-
-aside_owner : (w : Setting) (p n : ℕ) (o : Option (List ℕ)) → Aside (owner_of w p n o)
-aside_owner w p n None = aside_stop (failed w trap.Pointer)
-aside_owner w p n (Some bytes) = record { aside = λ s ls. refl }
-
-aside_block : (w : Setting) (p n : ℕ) (o : Option Block) → Aside (own_block w p n o)
-aside_block w p n None = aside_stop (failed w trap.Block)
-aside_block w p n (Some b) = aside_owner w p n (bytes_from b.cells 0 n)
-
-aside_own : (w : Setting) (p n : ℕ) → Aside (own w p n)
-aside_own w p zero = aside_pure (val.Value (value.Buffer p 0 true))
-aside_own w p (suc n) = record { aside = λ s ls. (aside_block w p (suc n) (untaken p (suc n) s)).aside s ls }
-
-aside_take_over : (w : Setting) (p n : ℕ) → Aside (take_over w p n)
-unfolding take_over
-aside_take_over w p n =
-    aside_if (nat_lt (2 ^ 31 - 1) n) (stop (failed w trap.Size)) (cond (nat_eq p 0) (stop (failed w trap.Pointer)) (own w p n)) (aside_stop (failed w trap.Size))
-    (aside_if (nat_eq p 0) (stop (failed w trap.Pointer)) (own w p n) (aside_stop (failed w trap.Pointer)) (aside_own w p n))
-
-pub aside_take : (w : Setting) (o : Option Val) (v : Val) → Aside (take_bytes w o v)
-aside_take w (Some (val.Word (word.Length n))) (val.Word (word.Pointer address)) = aside_take_over w address n
-aside_take w _ _ = aside_stop (stuck w)
-
-aside_tested : (w : Setting) (v : Val) (o : Option (List ℕ)) → Aside (tested w v o)
-aside_tested w v None = aside_stop (stuck w)
-aside_tested w v (Some bytes) = aside_if (is_utf8 bytes) (pure v) (stop (failed w trap.Utf8)) (aside_pure v) (aside_stop (failed w trap.Utf8))
-
--- the bytes that an owner has are told by the block and by whether it is taken
-aside_lift : (w : Setting) (v : Val) (o : Option (ℕ × ℕ × Bool)) → Aside (lift_buffer w v o)
-aside_lift w v (Some (address, zero, true)) = aside_tested w v (Some [])
-aside_lift w v (Some (address, suc n, true)) = record { aside = λ s ls. (aside_tested w v (owned_bytes address (suc n) s)).aside s ls }
-aside_lift w v _ = aside_stop (stuck w)
-
-pub aside_lift_text : (w : Setting) (v : Val) → Aside (lift_text w v)
-unfolding lift_text
-aside_lift_text w v = aside_lift w v (buffer_of v)
-
--- loads and stores
-
-pub aside_load : (w : Setting) (offset : ArchitectureSize) (ty : WasmType) (v : Val) → Aside (load_word w offset ty v)
-aside_load w offset ty (val.Word (word.Pointer address)) =
-    record { aside = λ s ls. (aside_or_stop (failed w trap.Pointer) (option_map val.Word (loaded ty (address + bytes_at offset 4) s.heap.blocks))).aside s ls }
-aside_load w offset ty _ = aside_stop (stuck w)
-
-pub aside_load_small : (w : Setting) (offset : ArchitectureSize) (ty : SmallType) (v : Val) → Aside (load_small w offset ty v)
-aside_load_small w offset ty (val.Word (word.Pointer address)) =
-    record { aside = λ s ls. (aside_or_stop (failed w trap.Pointer) (option_map val.Word (loaded_small ty (address + bytes_at offset 4) s.heap.blocks))).aside s ls }
-aside_load_small w offset ty _ = aside_stop (stuck w)
+-- what looks at the memory or changes it
 
 aside_kept : (w : Setting) (o : Option (List Block)) → Aside (or_stop (stuck w) o >>= keep_blocks)
 aside_kept w None = aside_stop (stuck w)
 aside_kept w (Some blocks) = record { aside = λ s ls. refl }
 
-aside_written : (w : Setting) (ty : WasmType) (address : ℕ) (o : Option Word) → Aside (write_word w ty address o)
-aside_written w ty address None = aside_stop (stuck w)
-aside_written w ty address (Some x) = record { aside = λ s ls. (aside_kept w (stored ty address x s.heap.blocks)).aside s ls }
+aside_removed : (e : Stop) (address size : ℕ) (o : Option Block) → Aside (or_stop e o >> turn (removed address size))
+aside_removed e address size None = aside_stop e
+aside_removed e address size (Some b) = record { aside = λ s ls. refl }
 
-pub aside_store : (w : Setting) (offset : ArchitectureSize) (ty : WasmType) (v at : Val) → Aside (store_word w offset ty v at)
-aside_store w offset ty v (val.Word (word.Pointer address)) = aside_written w ty (address + bytes_at offset 4) (word_of ty v)
-aside_store w offset ty v _ = aside_stop (stuck w)
+-- the bytes that an owner has are told by the block and by whether it is taken
+aside_told : (e : Stop) (address size : ℕ) → Aside (look (owned_bytes address size) >>= or_stop e)
+aside_told e address zero = record { aside = λ s ls. refl }
+aside_told e address (suc n) = record { aside = λ s ls. (aside_or_stop e (owned_bytes address (suc n) s)).aside s ls }
 
-aside_small_written : (w : Setting) (ty : SmallType) (address : ℕ) (o : Option ℤ) → Aside (write_small w ty address o)
-aside_small_written w ty address None = aside_stop (stuck w)
-aside_small_written w ty address (Some z) = record { aside = λ s ls. (aside_kept w (stored_small ty address z s.heap.blocks)).aside s ls }
-
-pub aside_store_small : (w : Setting) (offset : ArchitectureSize) (ty : SmallType) (v at : Val) → Aside (store_small w offset ty v at)
-aside_store_small w offset ty v (val.Word (word.Pointer address)) = aside_small_written w ty (address + bytes_at offset 4) (integer_of v)
-aside_store_small w offset ty v _ = aside_stop (stuck w)
+pub aside_acts : (w : Setting) → Acts w (λ A act. Aside act)
+aside_acts w = record {
+  gives = λ A a. aside_pure a;
+  stops = λ A e. aside_stop e;
+  follows = λ A B act f. aside_then act f;
+  finds = λ e address n. record { aside = λ s ls. (aside_or_stop e (untaken address (suc n) s)).aside s ls };
+  tells = aside_told;
+  owns = λ address. record { aside = λ s ls. refl };
+  removes = λ e address n. record { aside = λ s ls. (aside_removed e address (suc n) (untaken address (suc n) s)).aside s ls };
+  loads = λ e address ty. record { aside = λ s ls. (aside_or_stop e (option_map val.Word (loaded ty address s.heap.blocks))).aside s ls };
+  loads_small = λ e address ty. record { aside = λ s ls. (aside_or_stop e (option_map val.Word (loaded_small ty address s.heap.blocks))).aside s ls };
+  stores = λ address ty v x is. record { aside = λ s ls. (aside_kept w (stored ty address x s.heap.blocks)).aside s ls };
+  stores_small = λ address ty z. record { aside = λ s ls. (aside_kept w (stored_small ty address z s.heap.blocks)).aside s ls };
+}
 
 -- areas
 
@@ -385,7 +329,7 @@ ignores_bind known name v k =
     }
 
 pub ignores_take : (w : Setting) (known : Bytes → Bool) (name : Bytes) (v : Val) → known name ≡ true → IgnoresOthers known (λ s. take_bytes w (value_of (local_named name s.locals)) v s)
-ignores_take w known name v k = ignores_named known name (λ o. take_bytes w (value_of o) v) k (λ o. ignores_aside known (take_bytes w (value_of o) v) (aside_take w (value_of o) v))
+ignores_take w known name v k = ignores_named known name (λ o. take_bytes w (value_of o) v) k (λ o. ignores_aside known (take_bytes w (value_of o) v) (takes_bytes w (λ A act. Aside act) (aside_acts w) (value_of o) v))
 
 pub ignores_import : (w : Setting) (known : Bytes → Bool) (name : Bytes) (vs : List Val) → known name ≡ true → IgnoresOthers known (call_import w name vs)
 unfolding call_point

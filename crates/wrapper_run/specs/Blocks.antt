@@ -20,22 +20,34 @@ use Rattle.wrapper_run.specs.Memory.{block_at, block_from, bytes_from, stored, s
 use Rattle.wrapper_values.specs.Owning.{buffer_of, is_taken, owned, owned_in}
 use Rattle.wrapper_values.specs.Setting.{Setting, failed, stuck}
 
+-- a look at the state, which changes nothing, and a change of it
+abbrev pub look : {A : Type 0} → (State → A) → Act A
+look f = λ s. Done (f s) s
+
+abbrev pub turn : (State → State) → Act (Unit {0})
+turn f = λ s. Done tt (f s)
+
+-- a block at an address has an owner
+abbrev pub owns : ℕ → Act (Unit {0})
+owns address = turn (λ s. record s { taken = s.taken ++ address ∷ [] })
+
+abbrev pub keep_blocks : List Block → Act (Unit {0})
+keep_blocks blocks = turn (λ s. record s { heap = record s.heap { blocks = blocks } })
+
 -- the bytes at an address become a text's own
 
 abbrev pub untaken : ℕ → ℕ → State → Option Block
 untaken address size s = if is_taken address s.taken then None else block_at address size s.heap.blocks
 
 abbrev pub owner_of : Setting → ℕ → ℕ → Option (List ℕ) → Act Val
-owner_of w address size None = stop (failed w trap.Pointer)
-owner_of w address size (Some _) = λ s. Done (val.Value (value.Buffer address size true)) (record s { taken = s.taken ++ address ∷ [] })
+owner_of w address size o = or_stop (failed w trap.Pointer) o >> owns address >> pure (val.Value (value.Buffer address size true))
 
 abbrev pub own_block : Setting → ℕ → ℕ → Option Block → Act Val
-own_block w address size None = stop (failed w trap.Block)
-own_block w address size (Some b) = owner_of w address size (bytes_from b.cells 0 size)
+own_block w address size o = or_stop (failed w trap.Block) o >>= (λ b. owner_of w address size (bytes_from b.cells 0 size))
 
 abbrev pub own : Setting → ℕ → ℕ → Act Val
 own w address zero = pure (val.Value (value.Buffer address 0 true))
-own w address (suc n) = λ s. own_block w address (suc n) (untaken address (suc n) s) s
+own w address (suc n) = look (untaken address (suc n)) >>= own_block w address (suc n)
 
 -- at most 2^31 - 1 of them
 unfoldable pub take_over : Setting → ℕ → ℕ → Act Val
@@ -51,11 +63,10 @@ owned_bytes address (suc n) s =
     if is_taken address s.taken then option_and_then (λ b. bytes_from b.cells 0 (suc n)) (block_at address (suc n) s.heap.blocks) else None
 
 abbrev pub tested : Setting → Val → Option (List ℕ) → Act Val
-tested w v None = stop (stuck w)
-tested w v (Some bytes) = if is_utf8 bytes then pure v else stop (failed w trap.Utf8)
+tested w v o = or_stop (stuck w) o >>= (λ bytes. if is_utf8 bytes then pure v else stop (failed w trap.Utf8))
 
 abbrev pub lift_buffer : Setting → Val → Option (ℕ × ℕ × Bool) → Act Val
-lift_buffer w v (Some (address, size, true)) = λ s. tested w v (owned_bytes address size s) s
+lift_buffer w v (Some (address, size, true)) = look (owned_bytes address size) >>= tested w v
 lift_buffer w v _ = stop (stuck w)
 
 unfoldable pub lift_text : Setting → Val → Act Val
@@ -87,11 +98,10 @@ owned_block address s = if is_taken address s.taken then block_from address s.he
 
 -- it goes, with all its bytes
 abbrev pub free_found : Setting → ℕ → Option Block → Act (Unit {0})
-free_found w address None = stop (stuck w)
-free_found w address (Some b) = λ s. Done tt (without_block (address, b.size) s)
+free_found w address o = or_stop (stuck w) o >>= (λ b. turn (without_block (address, b.size)))
 
 unfoldable pub free : Setting → ℕ → Act (Unit {0})
-free w address = λ s. free_found w address (owned_block address s) s
+free w address = look (owned_block address) >>= free_found w address
 
 abbrev pub free_all : Setting → List ℕ → Act (Unit {0})
 free_all w [] = pure tt
@@ -122,11 +132,10 @@ in_scope w act = λ s. (act >>= (λ a. leave_to w (length s.locals) >> pure a)) 
 -- a block stays, and has no owner any more
 
 abbrev pub release_found : Setting → ℕ → Option Block → Act (Unit {0})
-release_found w address None = stop (stuck w)
-release_found w address (Some b) = λ s. Done tt (without_owner address s)
+release_found w address o = or_stop (stuck w) o >> turn (without_owner address)
 
 unfoldable pub release : Setting → ℕ → Act (Unit {0})
-release w address = λ s. release_found w address (owned_block address s) s
+release w address = look (owned_block address) >>= release_found w address
 
 abbrev pub release_all : Setting → List ℕ → Act (Unit {0})
 release_all w [] = pure tt
@@ -139,12 +148,11 @@ forget w v = release_all w (owned v) >> pure (val.Value value.Unit)
 -- a block is freed by its address and size, where no owner has it
 
 abbrev pub free_untaken : Setting → ℕ → ℕ → Option Block → Act (Unit {0})
-free_untaken w address size None = stop (failed w trap.Block)
-free_untaken w address size (Some b) = λ s. Done tt (removed address size s)
+free_untaken w address size o = or_stop (failed w trap.Block) o >> turn (removed address size)
 
 abbrev pub free_bytes : Setting → ℕ → ℕ → Act (Unit {0})
 free_bytes w address zero = pure tt
-free_bytes w address (suc n) = λ s. free_untaken w address (suc n) (untaken address (suc n) s) s
+free_bytes w address (suc n) = look (untaken address (suc n)) >>= free_untaken w address (suc n)
 
 -- at most 2^31 - 1 bytes
 unfoldable pub dealloc : Setting → ℕ → ℕ → Act (Unit {0})
@@ -157,12 +165,8 @@ dealloc_words w _ = stop (stuck w)
 
 -- a core value is written
 
-abbrev pub keep_blocks : List Block → Act (Unit {0})
-keep_blocks blocks = λ s. Done tt (record s { heap = record s.heap { blocks = blocks } })
-
 abbrev pub write_word : Setting → WasmType → ℕ → Option Word → Act (Unit {0})
-write_word w ty address None = stop (stuck w)
-write_word w ty address (Some x) = λ s. (or_stop (stuck w) (stored ty address x s.heap.blocks) >>= keep_blocks) s
+write_word w ty address o = or_stop (stuck w) o >>= (λ x. look (λ s. stored ty address x s.heap.blocks) >>= or_stop (stuck w) >>= keep_blocks)
 
 -- a value of a core type is written at an offset from an address
 abbrev pub store_word : Setting → ArchitectureSize → WasmType → Val → Val → Act (Unit {0})
@@ -172,8 +176,7 @@ store_word w offset ty v _ = stop (stuck w)
 -- the low bytes of a number are written
 
 abbrev pub write_small : Setting → SmallType → ℕ → Option ℤ → Act (Unit {0})
-write_small w ty address None = stop (stuck w)
-write_small w ty address (Some z) = λ s. (or_stop (stuck w) (stored_small ty address z s.heap.blocks) >>= keep_blocks) s
+write_small w ty address o = or_stop (stuck w) o >>= (λ z. look (λ s. stored_small ty address z s.heap.blocks) >>= or_stop (stuck w) >>= keep_blocks)
 
 -- what is cut to a small type is written at an offset from an address
 abbrev pub store_small : Setting → ArchitectureSize → SmallType → Val → Val → Act (Unit {0})

@@ -46,7 +46,7 @@ use Rattle.wrapper_values.specs.declared.owning.View.TheVariants as view_of
 use Rattle.wrapper_values.specs.declared.state.Val.{Val}
 use Rattle.wrapper_values.specs.declared.state.Val.TheVariants as val
 use Rattle.wrapper_values.specs.Setting.{Setting, failed, stuck}
-use Rattle.wrapper_run.specs.Blocks.{boxed, dealloc_words, drop_value, forget, leave_to, lift_text, store_small, store_word, take_over}
+use Rattle.wrapper_run.specs.Blocks.{boxed, dealloc_words, drop_value, forget, leave_to, lift_text, look, store_small, store_word, take_over}
 use Rattle.wrapper_run.specs.Arms.{ArmAct, run_match}
 use Rattle.wrapper_run.specs.LastParts.{results}
 use Rattle.wrapper_run.specs.Places.{declare_area, static_pointer}
@@ -184,7 +184,7 @@ abbrev pub record_call : CallPoint → Act (Unit {0})
 record_call p = λ s. Done tt (record s { calls = s.calls ++ p ∷ [] })
 
 abbrev pub call_import : Setting → Bytes → List Val → Act Val
-call_import w name vs = λ s. (or_stop (stuck w) (call_point s name vs) >>= (λ p. record_call p.0 >> take_answer w p.1)) s
+call_import w name vs = look (λ s. call_point s name vs) >>= or_stop (stuck w) >>= (λ p. record_call p.0 >> take_answer w p.1)
 
 -- the call of a function of `_rt`
 
@@ -265,13 +265,13 @@ call w path vs = call_callee w (callee path) vs
 -- a load of incoming data
 abbrev pub load_word : Setting → ArchitectureSize → WasmType → Val → Act Val
 load_word w offset ty (val.Word (word.Pointer address)) =
-    λ s. or_stop (failed w trap.Pointer) (option_map val.Word (loaded ty (address + bytes_at offset 4) s.heap.blocks)) s
+    look (λ s. option_map val.Word (loaded ty (address + bytes_at offset 4) s.heap.blocks)) >>= or_stop (failed w trap.Pointer)
 load_word w offset ty _ = stop (stuck w)
 
 -- a load of a small number
 abbrev pub load_small : Setting → ArchitectureSize → SmallType → Val → Act Val
 load_small w offset ty (val.Word (word.Pointer address)) =
-    λ s. or_stop (failed w trap.Pointer) (option_map val.Word (loaded_small ty (address + bytes_at offset 4) s.heap.blocks)) s
+    look (λ s. option_map val.Word (loaded_small ty (address + bytes_at offset 4) s.heap.blocks)) >>= or_stop (failed w trap.Pointer)
 load_small w offset ty _ = stop (stuck w)
 
 -- the take-over of as many bytes as a local says
@@ -299,7 +299,7 @@ eval_step w (Expr-F.CastMut name) = ask_local (stuck w) view_of.Pointer name
 eval_step w (Expr-F.ReturnPointer name) = ask_local (stuck w) view_of.AreaAddress name
 eval_step w (Expr-F.Load e offset ty) = e >>= load_word w offset ty
 eval_step w (Expr-F.LoadSmall e offset ty) = e >>= load_small w offset ty
-eval_step w (Expr-F.FromRawParts e length) = e >>= (λ v. λ s. take_bytes w (value_of (local_named length s.locals)) v s)
+eval_step w (Expr-F.FromRawParts e length) = e >>= (λ v. look (λ s. value_of (local_named length s.locals)) >>= (λ n. take_bytes w n v))
 eval_step w (Expr-F.IntoBoxedBytes name) = use_local (stuck w) name >>= boxed w
 eval_step w Expr-F.StaticPointer = static_pointer w
 eval_step w (Expr-F.Size size) = or_stop (stuck w) (size_word size)
