@@ -9,6 +9,7 @@ pub mod EnumLowers
 pub mod FlagLowers
 pub mod FlatCode
 pub mod FlowSteps
+pub mod HasList
 pub mod LawInstances
 pub mod LowerSteps
 pub mod Ordinary
@@ -20,6 +21,7 @@ pub mod SaysTypes
 pub mod ScalarRanges
 pub mod Serving
 pub mod SpentFlows
+pub mod TableSizes
 pub mod Taken
 pub mod Variants
 pub mod WordBits

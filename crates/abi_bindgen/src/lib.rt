@@ -3,6 +3,7 @@
 
 mod bindgen;
 mod casts;
+mod has_list;
 mod instruction;
 mod lower;
 mod number;
@@ -11,6 +12,7 @@ mod sending;
 
 pub use bindgen::{Asked, Bindgen, Operand};
 pub use casts::cast_words;
+pub use has_list::{guest_export_needs_post_return, id_has_list};
 pub use instruction::Instruction;
 pub use lower::leaf::{lower_by, scalar_lowering};
 pub use lower::lower_flat;

@@ -2,7 +2,6 @@ pub mod AnswerArea
 pub mod AreaAsked
 pub mod AreaHeaps
 pub mod AreaSteps
-pub mod HasList
 pub mod LiftSteps
 pub mod LiftedArguments
 pub mod ArgumentSteps

@@ -4,16 +4,14 @@ use mathlib.Core.Logic.{inl, inr}
 use Rattle.std.proofs.Math.Seq.{get_or-append_seam}
 use Rattle.std.proofs.lemmas.Bool.{ltb-false, ltb-true}
 use Rattle.std.proofs.lemmas.List.{get_or_append_left}
-use Rattle.std.specs.List.{list_all}
 use Rattle.wit_model.specs.Size.{alignment_at, bytes_at}
-use Rattle.wit_model.specs.TypeOrder.{type_below}
 use Rattle.wit_model.specs.declared.size.Alignment.{Alignment}
 use Rattle.wit_model.specs.declared.size.ArchitectureSize.{ArchitectureSize}
 use Rattle.wit_model.specs.declared.types.TypeDef.{TypeDef}
 use Rattle.wit_model.specs.declared.types.WitType.{WitType}
 use Rattle.wit_layout.specs.declared.size_align.SizeAlign.{SizeAlign}
 use Rattle.wit_layout.specs.Extent.{end, place}
-use Rattle.wit_layout.specs.Filled.{IsFilledFor, have_sizes}
+use Rattle.wit_layout.specs.Filled.{IsFilledFor}
 use Rattle.wit_layout.specs.Sizes.{extent_of, extents_of, field_offsets}
 use Rattle.wit_layout.specs.Told.{IsAlignmentOf, IsPairOf}
 use Rattle.wit_layout.specs.Tree.{Tree, payloads_in as tree_payloads, record_of}
@@ -44,10 +42,6 @@ one_more sizes types places now place k count is before here table n d filled l 
         let same : n ≡ k = omega (arith, high, l) in
         let read : get_or now n d ≡ place = ap (λ ps. get_or ps n d) is ∙ ap (λ j. get_or (places ++ place ∷ []) j d) (same ∙ sym count) ∙ get_or-append_seam places place [] d in
         subst (λ p. IsPairOf p (λ w. slice_index (field_offsets w (record_of table types)) n)) (sym read) (subst (λ j. IsPairOf place (λ w. slice_index (field_offsets w (record_of table types)) j)) (sym same) (here table filled))
-
--- where the table has the types, they have sizes
-pub have_places : (sizes : SizeAlign) (table : List TypeDef) (types : List WitType) → IsFilledFor sizes table → list_all (λ ty. type_below (length table) ty) types ≡ true → have_sizes sizes types ≡ true
-have_places sizes table types filled below = subst (λ n. list_all (λ ty. type_below n ty) types ≡ true) (sym filled.count) below
 
 module _ (w : ℕ) where
   pub at_width : (s : ArchitectureSize) (f : ℕ → ℕ) → (w ≡ 2) ⊎ (w ≡ 3) → IsPairOf s f → bytes_at s (2 ^ w) ≡ f w

@@ -17,7 +17,7 @@ use Rattle.type_defs.specs.ListedTypes.{Entries}
 use Rattle.gen_accept.specs.Emitted.{exported_functions, functions_in, imported_functions}
 use Rattle.gen_accept.specs.InRange.{AreInRange}
 use Rattle.gen_accept.specs.TooLarge.{AreSized}
-use Rattle.abi_driver.proofs.RecordPlaces.{have_places}
+use Rattle.abi_bindgen.proofs.TableSizes.{have_places}
 use Rattle.gen_accept.proofs.WithinLemmas.{world-in}
 use Rattle.wit_layout.specs.Filled.{IsFilledFor}
 use Rattle.wit_layout.specs.declared.size_align.SizeAlign.{SizeAlign}

@@ -1,5 +1,5 @@
 -- What the driver makes code for: each type of built tables, and each function of an accepted world, whose parameters have few bytes besides.
-use Rattle.std.proofs.Common.{◌≡◌, ℕ, zero, suc, ◌≤◌, ◌^◌, Bool, true, false, cond, ◌||◌, List, [], ◌∷◌, ◌++◌, length, map, get_or, find, Option, None, Some, is_some, refl, sym, ap, ◌∙◌, arith}
+use Rattle.std.proofs.Common.{◌≡◌, ℕ, zero, suc, ◌≤◌, ◌<◌, ◌^◌, Bool, true, false, cond, ◌||◌, List, [], ◌∷◌, ◌++◌, length, map, get_or, find, Option, None, Some, is_some, refl, sym, ap, ◌∙◌, arith}
 use Rattle.std.specs.Prelude.{nat_le, slice_get}
 use Rattle.std.specs.List.{list_all}
 use Rattle.std.specs.Option.{option_map}
@@ -24,7 +24,6 @@ use Rattle.abi_bindgen.specs.Parts.{count}
 use Rattle.abi_bindgen.specs.Served.{Serves, ServesAll, ServesFunction, ServesResult}
 use Rattle.abi_bindgen.proofs.BareCases.{count_bare}
 use Rattle.abi_bindgen.proofs.Payloads.{count_payloads}
-use Rattle.abi_driver.specs.Low.{IsSmallRecord}
 use Rattle.type_defs.specs.Defined.{is_defined_part, is_defined_type}
 use Rattle.type_defs.specs.FunctionTypes.{function_passes, passes_or_none}
 use Rattle.type_defs.specs.ListedTypes.{Entries}
@@ -167,15 +166,19 @@ first-false : (a b : Bool) → a || b ≡ false → a ≡ false
 first-false true b h = absurd (cc)
 first-false false b h = refl
 
-small-record : (types : List TypeDef) (f : Function) → is_large_function types f ≡ false → IsSmallRecord types (map (λ p. p.ty) f.params)
+-- all parameters as one record have few bytes
+abbrev IsSmall : List TypeDef → Function → Type 0
+IsSmall types f = elem_size 3 (record_of types (map (λ p. p.ty) f.params)) < 2 ^ 31
+
+small-record : (types : List TypeDef) (f : Function) → is_large_function types f ≡ false → IsSmall types f
 small-record types f h = leb-false (2 ^ 31) (elem_size 3 (record_of types (map (λ p. p.ty) f.params))) (first-false (is_large (record_of types (map (λ p. p.ty) f.params))) _ h)
 
 -- where no function is too large, the parameters of each have few bytes as one record
 module _ (types : List TypeDef) (world : World) (none : first_large_function types world ≡ None) where
-  pub imports-small : (nth : ℕ) (f : Function) → slice_get (imported_functions world) nth ≡ Some f → IsSmallRecord types (map (λ p. p.ty) f.params)
+  pub imports-small : (nth : ℕ) (f : Function) → slice_get (imported_functions world) nth ≡ Some f → IsSmall types f
   imports-small nth f at =
       small-record types f (not-found (is_large_function types) (imported_functions world) (in-neither (is_large_function types) (imported_functions world) (exported_functions world) none).0 nth f at)
 
-  pub exports-small : (nth : ℕ) (f : Function) → slice_get (exported_functions world) nth ≡ Some f → IsSmallRecord types (map (λ p. p.ty) f.params)
+  pub exports-small : (nth : ℕ) (f : Function) → slice_get (exported_functions world) nth ≡ Some f → IsSmall types f
   exports-small nth f at =
       small-record types f (not-found (is_large_function types) (exported_functions world) (in-neither (is_large_function types) (imported_functions world) (exported_functions world) none).1 nth f at)

@@ -7,7 +7,7 @@ ghost use Rattle.wit_model.specs.WellFormed.{IsWellFormed};
 ghost use Rattle.gen_accept.specs.Area.{import_needs_area, needs_area, needs_area_on, needs_return};
 ghost use Rattle.gen_accept.specs.InRange.{AreInRange};
 
-use abi_driver::guest_export_needs_post_return;
+use abi_bindgen::guest_export_needs_post_return;
 use wit_layout::{AbiVariant, wasm_signature};
 use wit_model::{Function, Resolve};
 

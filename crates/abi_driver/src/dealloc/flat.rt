@@ -20,12 +20,12 @@ ghost use Rattle.abi_bindgen.specs.WordCount.{word_count, word_counts};
 ghost use Rattle.abi_driver.specs.FreedCases.{FreesCaseSlots, FreesSlots};
 
 use crate::dealloc::variants::run_case;
-use crate::has_list::id_has_list;
 use crate::lift::flags::flag_words;
 use crate::lift::leaf::scalar_lifting;
 use crate::memory::variants::{close, empty_block};
 use abi_bindgen::{
-    Bindgen, Instruction, Operand, cast_words, field_types, kind_payloads, only, push_copies, send,
+    Bindgen, Instruction, Operand, cast_words, field_types, id_has_list, kind_payloads, only,
+    push_copies, send,
 };
 use std::alloc::Global;
 use wit_layout::flat_types;

@@ -20,12 +20,11 @@ ghost use Rattle.abi_driver.specs.Low.{EachEndsLow, EndsLow, IsSmallRecord};
 
 use crate::dealloc::places::record_places;
 use crate::dealloc::variants::run_case;
-use crate::has_list::id_has_list;
 use crate::lift::leaf::scalar_lifting;
 use crate::memory::place::{behind_pointer, part_place};
 use crate::memory::variants::{case_payloads, close, empty_block, load_tag, payload_place};
 use crate::memory::word::load_word;
-use abi_bindgen::{Bindgen, Instruction, field_types, only, send};
+use abi_bindgen::{Bindgen, Instruction, field_types, id_has_list, only, send};
 use std::alloc::Global;
 use wit_model::{ArchitectureSize, OutOfMemory, Resolve, TypeDefKind, TypeId, WitType};
 

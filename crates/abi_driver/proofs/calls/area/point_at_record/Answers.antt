@@ -2,7 +2,7 @@ use Rattle.std.proofs.Common.{arith}
 use mathlib.Core.Logic.{inr}
 use Rattle.abi_driver.proofs.AreaAsked.{asks_for_record, record_is_power, flows_asking_record}
 use Rattle.abi_driver.proofs.LowPlaces.{small_fits}
-use Rattle.abi_driver.proofs.RecordPlaces.{have_places}
+use Rattle.abi_bindgen.proofs.TableSizes.{have_places}
 use Rattle.abi_driver.proofs.calls.area.point_at_record.Goals as goal
 
 pub record_of-align-requires-clause-room : goal.record_of-align-requires-clause-room

@@ -14,7 +14,8 @@ use Rattle.abi_driver.proofs.ArgumentSteps.{within_count}
 use Rattle.abi_bindgen.proofs.Serving.{part_served}
 use Rattle.abi_driver.proofs.LowPlaces.{small_fits, small_part}
 use Rattle.abi_driver.proofs.PartOffsets.{behind_next, pair_is}
-use Rattle.abi_driver.proofs.RecordPlaces.{have_places, record_place}
+use Rattle.abi_bindgen.proofs.TableSizes.{have_places}
+use Rattle.abi_driver.proofs.RecordPlaces.{record_place}
 use Rattle.abi_driver.proofs.RecordStores.{rest_last, rest_next}
 use Rattle.abi_bindgen.proofs.Records.{part_below_within}
 use Rattle.abi_bindgen.proofs.Runs.{adds_both, adds_same}

@@ -10,7 +10,8 @@ use Rattle.abi_bindgen.specs.Instructions.{Emits, shapes_of}
 use Rattle.abi_bindgen.specs.Flow.{emit, ◌>>>◌}
 use Rattle.abi_driver.proofs.AreaAsked.{record_told}
 use Rattle.abi_driver.proofs.LowPlaces.{small_fits}
-use Rattle.abi_driver.proofs.RecordPlaces.{have_places, record_layout}
+use Rattle.abi_bindgen.proofs.TableSizes.{have_places}
+use Rattle.abi_driver.proofs.RecordPlaces.{record_layout}
 use Rattle.abi_bindgen.proofs.FlowSteps.{flows_as, flows_then}
 use Rattle.std.proofs.lemmas.List.{nil_from_length}
 use Rattle.abi_driver.proofs.calls.record.free_arguments.Goals as goal

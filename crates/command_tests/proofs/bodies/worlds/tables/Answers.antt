@@ -4,7 +4,7 @@ use Rattle.std.proofs.lemmas.Bool.{and_from, lt-ltb}
 use Rattle.wit_model.specs.TypeOrder.{type_below}
 use Rattle.wit_model.specs.declared.types.TypeDef.{TypeDef}
 use Rattle.wit_model.specs.declared.types.WitType.TheVariants.{Id}
-use Rattle.abi_driver.proofs.RecordPlaces.{have_places}
+use Rattle.abi_bindgen.proofs.TableSizes.{have_places}
 use Rattle.gen_accept.proofs.AcceptedLemmas.{built-kinds}
 use Rattle.gen_accept.proofs.ServedLemmas.{table-served}
 use Rattle.command_tests.proofs.bodies.worlds.tables.Goals as goal

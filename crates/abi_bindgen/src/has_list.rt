@@ -39,9 +39,9 @@ fn type_has_list(resolve: &Resolve, ty: WitType) -> bool
     }
 }
 
-/// The same, of the type at a place of the table.
+/// Whether a value of the type at a place of the table may have a text, a list or a map.
 #[cycle(has_list)]
-pub(crate) fn id_has_list(resolve: &Resolve, id: TypeId) -> bool
+pub fn id_has_list(resolve: &Resolve, id: TypeId) -> bool
     requires down { GoesDown resolve.now.types }
     requires within { id.0 < length resolve.now.types }
     ensures { result ≡ has_list (shape_at resolve.now.types id.0) }

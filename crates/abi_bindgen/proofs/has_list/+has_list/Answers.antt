@@ -5,9 +5,9 @@ use Rattle.wit_model.specs.declared.types.TypeDef.{TypeDef}
 use Rattle.wit_model.specs.Parts.{parts}
 use Rattle.wit_layout.proofs.FlattenSteps.{rank}
 use Rattle.abi_bindgen.specs.HasList.{IsKindOf, payload_has_list}
-use Rattle.abi_driver.proofs.HasList.{any_here, any_later, list_has, part_below, part_low, parts_tell, untold}
+use Rattle.abi_bindgen.proofs.HasList.{any_here, any_later, list_has, part_below, part_low, parts_tell, untold}
 use Rattle.abi_bindgen.proofs.Records.{entry_at}
-use Rattle.abi_driver.proofs.has_list.+has_list.Goals as goal
+use Rattle.abi_bindgen.proofs.has_list.+has_list.Goals as goal
 
 pub id_has_list-returns-then-is_list : goal.id_has_list-returns-then-is_list
 id_has_list-returns-then-is_list t c =

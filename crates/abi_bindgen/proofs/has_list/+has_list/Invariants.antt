@@ -3,7 +3,7 @@ use Rattle.std.specs.List.{list_any}
 use Rattle.wit_model.specs.Parts.{parts}
 use Rattle.wit_layout.proofs.FlattenSteps.{rank}
 use Rattle.abi_bindgen.specs.HasList.{payload_has_list}
-use Rattle.abi_driver.proofs.has_list.+has_list.Given as goal
+use Rattle.abi_bindgen.proofs.has_list.+has_list.Given as goal
 
 abbrev pub decreases-type_has_list : goal.decreases-type_has_list
 decreases-type_has_list l = 4 * rank l.ty
