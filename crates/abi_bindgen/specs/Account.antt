@@ -1,5 +1,5 @@
 -- What a run has done outside its locals, how it ends, and the actions on it of which the laws are made.
-use Rattle.std.specs.Prelude.{◌≡◌, ℕ, ◌-◌, ◌^◌, Bool, true, false, ◌&&◌, nat_eq, nat_lt, if◌then◌else◌, find, List, [], ◌∷◌, ◌++◌, map, Option, None, Some}
+use Rattle.std.specs.Prelude.{◌≡◌, ℕ, ◌-◌, ◌^◌, Bool, true, false, not, ◌&&◌, ◌||◌, nat_eq, nat_lt, if◌then◌else◌, find, List, [], ◌∷◌, ◌++◌, map, Option, None, Some}
 use Rattle.std.specs.List.{list_any}
 use Rattle.std.specs.Str.{is_utf8}
 use Rattle.wit_model.specs.declared.wasm_type.WasmType.{WasmType}
@@ -142,26 +142,26 @@ pub record Taken : Type 0 where
   pub bytes : List ℕ
   pub blocks : List Block
 
--- bytes are owned before they are tested
-abbrev pub as_text : {V : Type 0} → Form → Block → List ℕ → Act V Taken
-as_text f b bytes acc = if is_utf8 bytes then gives (record { bytes = bytes; blocks = b ∷ [] }) acc else failing f trap.Utf8 acc
+-- bytes are owned before they are tested for UTF-8, where they are tested at all
+abbrev pub as_text : {V : Type 0} → (tests : Bool) → Form → Block → List ℕ → Act V Taken
+as_text tests f b bytes acc = if not tests || is_utf8 bytes then gives (record { bytes = bytes; blocks = b ∷ [] }) acc else failing f trap.Utf8 acc
 
-abbrev pub tested : {V : Type 0} → Form → Block → Option (List ℕ) → Act V Taken
-tested f b None acc = failing f trap.Pointer acc
-tested f b (Some bytes) acc = as_text f b bytes (record acc { taken = acc.taken ++ b.address ∷ [] })
+abbrev pub tested : {V : Type 0} → (tests : Bool) → Form → Block → Option (List ℕ) → Act V Taken
+tested tests f b None acc = failing f trap.Pointer acc
+tested tests f b (Some bytes) acc = as_text tests f b bytes (record acc { taken = acc.taken ++ b.address ∷ [] })
 
-abbrev pub found : {V : Type 0} → Form → ℕ → Option Block → Act V Taken
-found f n None acc = failing f trap.Block acc
-found f n (Some b) acc = tested f b (bytes_from b.cells 0 n) acc
+abbrev pub found : {V : Type 0} → (tests : Bool) → Form → ℕ → Option Block → Act V Taken
+found tests f n None acc = failing f trap.Block acc
+found tests f n (Some b) acc = tested tests f b (bytes_from b.cells 0 n) acc
 
 -- so many bytes at an address are taken over as a text
-abbrev pub taking : {V : Type 0} → Form → (address n : ℕ) → Act V Taken
-taking f address n acc =
+abbrev pub taking : {V : Type 0} → (tests : Bool) → Form → (address n : ℕ) → Act V Taken
+taking tests f address n acc =
     if nat_lt (2 ^ 31 - 1) n then failing f trap.Size acc
     else (if nat_eq address 0 then failing f trap.Pointer acc
     else (if nat_eq n 0 then gives (record { bytes = []; blocks = [] }) acc
     else (if is_taken address acc.taken then failing f trap.Block acc
-    else found f n (find (is_at address n) acc.heap.blocks) acc)))
+    else found tests f n (find (is_at address n) acc.heap.blocks) acc)))
 
 -- 3. Runs of code
 

@@ -51,6 +51,6 @@ module _ {Self Operand : Type 0} (m : Meaning Self Operand) where
   -- an address and a length become the text that is taken over there
   abbrev pub LiftsText : (os rs : List Operand) → (old new : Self) → Type 0
   LiftsText os rs old new =
-      (address n : ℕ) → Does m Taken old new (ofs m os (word (core.Pointer address) ∷ word (core.Length n) ∷ [])) (λ f. taking f.form address n)
+      (address n : ℕ) → Does m Taken old new (ofs m os (word (core.Pointer address) ∷ word (core.Length n) ∷ [])) (λ f. taking (m.tests old) f.form address n)
       (λ x fs. (a : m.Item) × (fs ≡ ofs m rs (item a ∷ [])) × (Says m.width take text x.bytes (core.Pointer address ∷ core.Length n ∷ []) x.blocks → m.stands take text x.bytes a x.blocks))
       (λ x. addresses x.blocks) (λ x. [])

@@ -91,6 +91,8 @@ pub record Meaning (Self Operand : Type 0) : Type 1 where
   pub knows : Self → List TypeDef → Type 0
   -- it has how the type at a place of this table is written
   pub writes : Self → List TypeDef → ℕ → Type 0
+  -- whether it tests that the bytes of a text which it takes over are UTF-8
+  pub tests : Self → Bool
   -- how many arguments the code has; none where there is no bound
   pub arguments : Self → Option ℕ
   -- no method was called in the code so far

@@ -112,8 +112,8 @@ module _ {Self Operand : Type 0} (m : Meaning Self Operand) (sound : Sound m) (t
         let at1 : At m w f a b (ofs m (o ∷ p ∷ []) (core_data m pair) ++ others) s0 st = record { serves = at.serves; done = at.done; holds = subst (λ zs. m.denotes w a (ofs m (o ∷ p ∷ []) (core_data m zs) ++ others) st) says.pair at.holds } in
         let P : Got m.Item Taken → m.State → Type 0 = λ x t. (outs : Facts m) × ((c : m.Item) × (outs ≡ ofs m (r ∷ []) (item c ∷ [])) × (Says m.width take text x.result.bytes pair x.result.blocks → m.stands take text x.result.bytes c x.result.blocks))
         × After m w b (outs ++ others) (addresses x.result.blocks) [] st x t in
-        let ran = follows_done m.account (taking f.form q n (m.account st)) (m.does w f (m.code b) s0) P (record { result = record { bytes = v; blocks = own }; account = took own (m.account st) })
-        (taking_text f.form q v own (m.account st) listed says.buffer.bounded says.buffer.placed may) (e.row q n w f others s0 st at1) in
+        let ran = follows_done m.account (taking (m.tests a) f.form q n (m.account st)) (m.does w f (m.code b) s0) P (record { result = record { bytes = v; blocks = own }; account = took own (m.account st) })
+        (taking_text (m.tests a) f.form q v own (m.account st) listed says.buffer.bounded says.buffer.placed may) (e.row q n w f others s0 st at1) in
         let t = ran.0 in
         let is = ran.2.1 in
         let after = ran.2.2 in (

@@ -1,5 +1,5 @@
 -- When honest words are read: a scalar meets its test, and a text is found and taken over.
-use Rattle.std.proofs.Common.{◌≡◌, ℕ, zero, suc, ◌+◌, ◌-◌, ◌*◌, ◌^◌, ◌<◌, Bool, true, false, not, ◌&&◌, nat_eq, nat_lt, nat_le, ⊎_elim, if◌then◌else◌, List, [], ◌∷◌, ◌++◌, length, find, Some, refl, sym, ap, ap₂, ◌∙◌, subst, arith, append_assoc, append-nil}
+use Rattle.std.proofs.Common.{◌≡◌, ℕ, zero, suc, ◌+◌, ◌-◌, ◌*◌, ◌^◌, ◌<◌, Bool, true, false, ◌||◌, not, ◌&&◌, nat_eq, nat_lt, nat_le, ⊎_elim, if◌then◌else◌, List, [], ◌∷◌, ◌++◌, length, find, Some, refl, sym, ap, ap₂, ◌∙◌, subst, arith, append_assoc, append-nil}
 use Rattle.std.specs.List.{list_all, slice_index_or}
 use Rattle.std.specs.Str.{is_utf8}
 use Rattle.std.proofs.lemmas.Bool.{and_parts, le-ltb, lt-ltb, ltb-true, ne_eqb}
@@ -121,15 +121,20 @@ good_at [] b k good l e = absurd (omega (arith, l))
 good_at (x ∷ blocks) b zero good l e = sym (ap is_block e) ∙ (and_parts _ _ good).0
 good_at (x ∷ blocks) b (suc k) good l e = good_at blocks b k (and_parts _ _ good).1 (omega (arith, l)) e
 
+-- what is UTF-8 passes, tested or not
+passes : (tests b : Bool) → b ≡ true → (not tests || b) ≡ true
+passes false b h = refl
+passes true b h = h
+
 -- a text in one block
-block_taken : {V : Type 0} (f : Form) (b : Block) (bytes : List ℕ) (acc : Account V) → is_utf8 bytes ≡ true → 0 < b.size → b.size < 2 ^ 31 → bytes_from b.cells 0 b.size ≡ Some bytes → MayTake (b ∷ []) acc
-    → taking f b.address b.size acc ≡ Done (record { result = record { bytes = bytes; blocks = b ∷ [] }; account = took (b ∷ []) acc })
-block_taken {V} f b bytes acc utf8 some bounded read may =
+block_taken : {V : Type 0} (tests : Bool) (f : Form) (b : Block) (bytes : List ℕ) (acc : Account V) → is_utf8 bytes ≡ true → 0 < b.size → b.size < 2 ^ 31 → bytes_from b.cells 0 b.size ≡ Some bytes → MayTake (b ∷ []) acc
+    → taking tests f b.address b.size acc ≡ Done (record { result = record { bytes = bytes; blocks = b ∷ [] }; account = took (b ∷ []) acc })
+block_taken {V} tests f b bytes acc utf8 some bounded read may =
     let heap = and_parts (list_all is_block acc.heap.blocks) (are_apart acc.heap.blocks) may.formed in
     let there = may.there.0 in
     let good = good_at acc.heap.blocks b there.0 heap.0 there.1 there.2 in
     let above : 0 < b.address = (block_parts b good).1 in
-    let o4 : Outcome V (Got V Taken) = found f b.size (find (is_at b.address b.size) acc.heap.blocks) acc in
+    let o4 : Outcome V (Got V Taken) = found tests f b.size (find (is_at b.address b.size) acc.heap.blocks) acc in
     let o3 : Outcome V (Got V Taken) = if is_taken b.address acc.taken then failing f trap.Block acc else o4 in
     let o2 : Outcome V (Got V Taken) = if nat_eq b.size 0 then gives (record { bytes = []; blocks = [] }) acc else o3 in
     let o1 : Outcome V (Got V Taken) = if nat_eq b.address 0 then failing f trap.Pointer acc else o2 in
@@ -137,20 +142,20 @@ block_taken {V} f b bytes acc utf8 some bounded read may =
     ∙ if_false (nat_eq b.address 0) (failing f trap.Pointer acc) o2 (ne_eqb b.address 0 (λ e. omega (arith, above, e)))
     ∙ if_false (nat_eq b.size 0) (gives (record { bytes = []; blocks = [] }) acc) o3 (ne_eqb b.size 0 (λ e. omega (arith, some, e)))
     ∙ if_false (is_taken b.address acc.taken) (failing f trap.Block acc) o4 may.free.0
-    ∙ ap (λ x. found f b.size x acc) (find_at acc.heap.blocks b there.0 heap.0 heap.1 some there.1 there.2)
-    ∙ ap (λ x. tested f b x acc) read
-    ∙ if_true (is_utf8 bytes) (gives (record { bytes = bytes; blocks = b ∷ [] }) (took (b ∷ []) acc)) (failing f trap.Utf8 (took (b ∷ []) acc)) utf8
+    ∙ ap (λ x. found tests f b.size x acc) (find_at acc.heap.blocks b there.0 heap.0 heap.1 some there.1 there.2)
+    ∙ ap (λ x. tested tests f b x acc) read
+    ∙ if_true (not tests || is_utf8 bytes) (gives (record { bytes = bytes; blocks = b ∷ [] }) (took (b ∷ []) acc)) (failing f trap.Utf8 (took (b ∷ []) acc)) (passes tests (is_utf8 bytes) utf8)
 
-pub taking_text : {V : Type 0} (f : Form) (address : ℕ) (bytes : List ℕ) (own : List Block) (acc : Account V) → is_utf8 bytes ≡ true → length bytes * 1 < 2 ^ 31
-    → IsPlaced take true address (length bytes) 1 (TextHolds bytes) own → MayTake own acc → taking f address (length bytes) acc ≡ Done (record { result = record { bytes = bytes; blocks = own }; account = took own acc })
-taking_text f address [] own acc utf8 bounded placed may =
+pub taking_text : {V : Type 0} (tests : Bool) (f : Form) (address : ℕ) (bytes : List ℕ) (own : List Block) (acc : Account V) → is_utf8 bytes ≡ true → length bytes * 1 < 2 ^ 31
+    → IsPlaced take true address (length bytes) 1 (TextHolds bytes) own → MayTake own acc → taking tests f address (length bytes) acc ≡ Done (record { result = record { bytes = bytes; blocks = own }; account = took own acc })
+taking_text tests f address [] own acc utf8 bounded placed may =
     if_false (nat_eq address 0) (failing f trap.Pointer acc) (gives (record { bytes = []; blocks = [] }) acc) (ne_eqb address 0 (λ e. omega (arith, placed.0, e)))
     ∙ ap₂ (λ (blocks : List Block) (a : Account _). Done (record { result = record { bytes = []; blocks = blocks }; account = a })) (sym placed.1) (sym (ap (λ xs. took xs acc) placed.1 ∙ took_none acc))
-taking_text f address (x ∷ xs) own acc utf8 bounded placed may =
+taking_text tests f address (x ∷ xs) own acc utf8 bounded placed may =
     let b = placed.block in
     let bytes : List ℕ = x ∷ xs in
     let is : own ≡ b ∷ [] = placed.all ∙ ap₂ (λ p q. p ++ q) placed.held.itself placed.holds.1 in
     let size : b.size ≡ length bytes = placed.held.exact ∙ omega arith in
     let read : bytes_from b.cells 0 b.size ≡ Some bytes = ap (bytes_from b.cells 0) size ∙ ap (λ k. bytes_from b.cells k (length bytes)) (sym placed.held.whole) ∙ placed.holds.0 in
-    let here = block_taken f b bytes acc utf8 (omega (arith, size)) (omega (arith, size, bounded)) read (subst (λ bs. MayTake bs acc) is may) in
-    ap₂ (λ p n. taking f p n acc) (sym placed.held.starts) (sym size) ∙ here ∙ ap (λ (blocks : List Block). Done (record { result = record { bytes = bytes; blocks = blocks }; account = took blocks acc })) (sym is)
+    let here = block_taken tests f b bytes acc utf8 (omega (arith, size)) (omega (arith, size, bounded)) read (subst (λ bs. MayTake bs acc) is may) in
+    ap₂ (λ p n. taking tests f p n acc) (sym placed.held.starts) (sym size) ∙ here ∙ ap (λ (blocks : List Block). Done (record { result = record { bytes = bytes; blocks = blocks }; account = took blocks acc })) (sym is)

@@ -281,7 +281,7 @@ module _ (w : File) (q : Peer RustValue) (old new : FunctionBindgen) (a n : Expr
   stops k kind = fails_alike q.form w.item kind s.area (base k) acc (Ends k) refl
 
   read_agrees : (n : ℕ) (b : Block) (o : Option (List ℕ)) → 0 < p → is_taken p s.machine.taken ≡ false → block_at p (suc n) s.machine.heap.blocks ≡ Some b → bytes_from b.cells 0 (suc n) ≡ o
-      → Agree (suc n) (law_tested q.form b o acc) (owner_of set p (suc n) o (base (suc n)))
+      → Agree (suc n) (law_tested true q.form b o acc) (owner_of set p (suc n) o (base (suc n)))
   read_agrees n b None pos free_p there read = stops (suc n) trap.Pointer
   read_agrees n b (Some bytes) pos free_p there read =
       let blocks = s.machine.heap.blocks in
@@ -292,28 +292,28 @@ module _ (w : File) (q : Peer RustValue) (old new : FunctionBindgen) (a n : Expr
       (ap (λ c. if c then option_and_then (λ (c : Block). bytes_from c.cells 0 (suc n)) (block_at p (suc n) blocks) else None) (last_taken p s.machine.taken) ∙ ap (option_and_then (λ (c : Block). bytes_from c.cells 0 (suc n))) there ∙ read)
       (owned-block p n ∙ ap (λ x. x ∷ []) (sym at)) (owned_more blocks p s.machine.taken free_p (there_of (block_from p blocks) from.0 from.1) d.owners) (is_utf8 bytes) refl
 
-  block_agrees : (n : ℕ) (o : Option Block) → 0 < p → is_taken p s.machine.taken ≡ false → block_at p (suc n) s.machine.heap.blocks ≡ o → Agree (suc n) (law_found q.form (suc n) o acc) (own_block set p (suc n) o (base (suc n)))
+  block_agrees : (n : ℕ) (o : Option Block) → 0 < p → is_taken p s.machine.taken ≡ false → block_at p (suc n) s.machine.heap.blocks ≡ o → Agree (suc n) (law_found true q.form (suc n) o acc) (own_block set p (suc n) o (base (suc n)))
   block_agrees n None pos free_p there = stops (suc n) trap.Block
   block_agrees n (Some b) pos free_p there =
-      subst (λ o. Agree (suc n) (law_tested q.form b o acc) (owner_of set p (suc n) (bytes_from b.cells 0 (suc n)) (base (suc n)))) (sym (same_bytes b.cells 0 (suc n)))
+      subst (λ o. Agree (suc n) (law_tested true q.form b o acc) (owner_of set p (suc n) (bytes_from b.cells 0 (suc n)) (base (suc n)))) (sym (same_bytes b.cells 0 (suc n)))
       (read_agrees n b (bytes_from b.cells 0 (suc n)) pos free_p there refl)
 
   -- in bounds, and not at address 0
   abbrev law : ℕ → Outcome RustValue (Got RustValue Taken)
-  law k = if nat_eq k 0 then lawful (record { bytes = []; blocks = [] }) acc else (if is_taken p acc.taken then failing q.form trap.Block acc else law_found q.form k (find (is_at p k) acc.heap.blocks) acc)
+  law k = if nat_eq k 0 then lawful (record { bytes = []; blocks = [] }) acc else (if is_taken p acc.taken then failing q.form trap.Block acc else law_found true q.form k (find (is_at p k) acc.heap.blocks) acc)
 
   own_agrees : (k : ℕ) → 0 < p → Agree k (law k) (own set p k (base k))
   own_agrees zero pos = text_follows 0 [] s.machine.taken [] acc pos refl refl (owned-empty p true) d.owners true (is_utf8-from_IsUtf8 [] IsUtf8-nil)
   own_agrees (suc n) pos =
-      subst (λ c. Agree (suc n) (if c then lawful (record { bytes = []; blocks = [] }) acc else (if is_taken p acc.taken then failing q.form trap.Block acc else law_found q.form (suc n) (find (is_at p (suc n)) acc.heap.blocks) acc)) (own set p (suc n) (base (suc n)))) (sym (not_none n))
+      subst (λ c. Agree (suc n) (if c then lawful (record { bytes = []; blocks = [] }) acc else (if is_taken p acc.taken then failing q.form trap.Block acc else law_found true q.form (suc n) (find (is_at p (suc n)) acc.heap.blocks) acc)) (own set p (suc n) (base (suc n)))) (sym (not_none n))
       (go (is_taken p s.machine.taken) refl)
     where
       go : (c : Bool) → is_taken p s.machine.taken ≡ c
-          → Agree (suc n) (if c then failing q.form trap.Block acc else law_found q.form (suc n) (find (is_at p (suc n)) acc.heap.blocks) acc) (own_block set p (suc n) (if c then None else block_at p (suc n) s.machine.heap.blocks) (base (suc n)))
+          → Agree (suc n) (if c then failing q.form trap.Block acc else law_found true q.form (suc n) (find (is_at p (suc n)) acc.heap.blocks) acc) (own_block set p (suc n) (if c then None else block_at p (suc n) s.machine.heap.blocks) (base (suc n)))
       go true e = stops (suc n) trap.Block
       go false e = block_agrees n (block_at p (suc n) s.machine.heap.blocks) pos e refl
 
-  agrees : (k : ℕ) → Agree k (taking q.form p k acc) (take_over set p k (base k))
+  agrees : (k : ℕ) → Agree k (taking true q.form p k acc) (take_over set p k (base k))
   unfolding take_over
   agrees k = size (nat_lt (2 ^ 31 - 1) k)
     where
@@ -362,6 +362,6 @@ module _ (types : List TypeDef) (old new : FunctionBindgen) (a e : Expr) (t : �
         let found = found_right w.items old.runtime taking_items (subst (Found w.items) adds.runtime at.serves.runtime) in
         let d : Denote w old others s = record { hold = part w.items old others (address ∷ number ∷ others) s.machine (λ g. omega arith) h; owners = at.holds.owners; area = at.holds.area } in
         let run = ran old new (taken_stmts t a e) taking_items adds w q (address ∷ number ∷ others) s0 s at ∙ ap (seen s.area) (taken_runs set t a e p k s.machine given_e given_a) in
-        subst (λ o. Follows func_meaning.account (taking q.form p k (account_of s.machine)) o (Ends w q old new a e t adds fresh free p others s found.1.0 d k)) (sym run)
+        subst (λ o. Follows func_meaning.account (taking true q.form p k (account_of s.machine)) o (Ends w q old new a e t adds fresh free p others s found.1.0 d k)) (sym run)
         (agrees w q old new a e t adds fresh free p others s found.1.0 d k);
   }

@@ -246,6 +246,7 @@ func_meaning = record {
   imports = λ b. b.import;
   exports = λ b. not b.import;
   knows = λ b types. IsFilledFor b.sizes types;
+  tests = λ b. true;
   arguments = λ b. Some (length b.params);
   writes = λ b types id. CanWrite types b.sites id;
   uncalled = IsUncalled;
