@@ -23,6 +23,7 @@ pub mod Serving
 pub mod SpentFlows
 pub mod TableSizes
 pub mod Taken
+pub mod TurnInstances
 pub mod Variants
 pub mod WordBits
 pub mod WordCounts

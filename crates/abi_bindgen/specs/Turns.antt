@@ -1,9 +1,11 @@
 -- How instructions run the blocks that they use up: where a block begins, what comes in turn, and what is known behind the last one.
-use Rattle.std.specs.Prelude.{◌≡◌, ℕ, zero, suc, ◌+◌, List, [], ◌∷◌, ◌++◌}
+use Rattle.std.specs.Prelude.{◌≡◌, ℕ, zero, suc, ◌+◌, ◌*◌, ◌^◌, nat_lt, if◌then◌else◌, List, [], ◌∷◌, ◌++◌}
+use Rattle.wrapper_data.specs.declared.form.Form.{Form}
+use Rattle.wrapper_data.specs.declared.run.TrapKind.TheVariants as trap
 use Rattle.wrapper_meaning.specs.Items.{SameItems}
-use Rattle.abi_bindgen.specs.Account.{Account, Act, Done, Got, Outcome, Peer, then_do}
+use Rattle.abi_bindgen.specs.Account.{Account, Act, Done, Got, Outcome, Peer, failing, stay, then_do}
 use Rattle.abi_bindgen.specs.Laws.{Data, Facts}
-use Rattle.abi_bindgen.specs.Meaning.{Bound, Ended, Meaning, at_place, with_element, with_entry}
+use Rattle.abi_bindgen.specs.Meaning.{Bound, Ended, Meaning, at_place, with_element, with_entry, with_nothing, with_payload}
 
 module _ {Self Operand : Type 0} (m : Meaning Self Operand) where
   -- 1. Where a block begins
@@ -44,25 +46,35 @@ module _ {Self Operand : Type 0} (m : Meaning Self Operand) where
   entries size address [] = []
   entries size address (e ∷ es) = with_entry e.0 e.1 address ∷ entries size (address + size) es
 
-  -- a block is run with each of these in turn
-  abbrev pub turns : Run → List (Bound m.Item) → m.State → Outcome m.Item m.State
-  turns run [] s = Done s
-  turns run (with ∷ later) s = then_do (run with s) (λ e. turns run later e.state)
+  -- where a block is run, if that is at a place
+  abbrev pub stand_of : Bound m.Item → ℕ
+  stand_of with_nothing = 0
+  stand_of (with_payload a) = 0
+  stand_of (at_place address) = address
+  stand_of (with_element a address) = address
+  stand_of (with_entry k x address) = address
 
-  -- 3. What the turns give is gathered
+  -- behind the last address of a pointer there is no place
+  abbrev pub reaching : Form → (address : ℕ) → Act m.Item (Unit {0})
+  reaching f address acc = if nat_lt address (2 ^ (8 * 2 ^ m.width)) then stay acc else failing f trap.Pointer acc
 
-  -- it is put by, in a local that no operand needs and no block changes, and which owns what was put there last
-  pub record PutsBy {R : Type 0} (owned : R → List ℕ) (add : Data m → R → Act m.Item R) (w : m.World) (p : Peer m.Item) (old : Self) (body : m.Block) (begin : m.State) : Type 0 where
-    pub put : R → Account m.Item → m.State → m.State
-    pub held : m.State → List ℕ
-    pub begins : held begin ≡ []
-    pub stays : (with : Bound m.Item) (s : m.State) (e : Ended m.Item m.State) → m.runs w p body with s ≡ Done e → held e.state ≡ held s
-    pub puts : (r : R) (acc : Account m.Item) (s : m.State) → held (put r acc s) ≡ owned r
-    pub account : (ds : Data m) (r : R) (s : m.State) (x : Got m.Item R) → add ds r (m.account s) ≡ Done x → m.account (put x.result x.account s) ≡ x.account
-    pub owns : (r : R) (acc : Account m.Item) (s : m.State) → SameItems (m.owns (put r acc s) ++ held s) (m.owns s ++ owned r)
-    pub denotes : (r : R) (acc : Account m.Item) (s : m.State) (facts : Facts m) → m.denotes w old facts s → m.denotes w old facts (put r acc s)
+  -- a block is run with each of these in turn, as long as there is such a place
+  abbrev pub turns : Form → Run → List (Bound m.Item) → m.State → Outcome m.Item m.State
+  turns f run [] s = Done s
+  turns f run (with ∷ later) s = then_do (reaching f (stand_of with) (m.account s)) (λ u. then_do (run with s) (λ e. turns f run later e.state))
+
+  -- 3. What the turns give is gathered. No state has it before the last turn is done
+
+  -- an addition may free blocks of what was gathered; then the next turn begins in a state of the account that it left
+  pub record Sets {R : Type 0} (add : Data m → R → Act m.Item R) (w : m.World) (old : Self) : Type 0 where
+    pub set : Account m.Item → m.State → m.State
+    pub account : (ds : Data m) (r : R) (s : m.State) (x : Got m.Item R) → add ds r (m.account s) ≡ Done x → m.account (set x.account s) ≡ x.account
+    pub owns : (acc : Account m.Item) (s : m.State) → SameItems (m.owns (set acc s)) (m.owns s)
+    pub denotes : (ds : Data m) (r : R) (s : m.State) (x : Got m.Item R) (facts : Facts m) → add ds r (m.account s) ≡ Done x → m.denotes w old facts s → m.denotes w old facts (set x.account s)
 
   -- the results of each turn are added to what was gathered
-  abbrev pub gathers : {R : Type 0} → Run → (Data m → R → Act m.Item R) → (R → Account m.Item → m.State → m.State) → List (Bound m.Item) → R → m.State → Outcome m.Item (Went R)
-  gathers run add put [] r s = Done (record { result = r; state = s; account = m.account s })
-  gathers run add put (with ∷ later) r s = then_do (run with s) (λ e. then_do (add e.results r (m.account e.state)) (λ x. gathers run add put later x.result (put x.result x.account e.state)))
+  abbrev pub gathers : {R : Type 0} → Form → Run → (Data m → R → Act m.Item R) → (Account m.Item → m.State → m.State) → List (Bound m.Item) → R → m.State → Outcome m.Item (Went R)
+  gathers f run add set [] r s = Done (record { result = r; state = s; account = m.account s })
+  gathers f run add set (with ∷ later) r s =
+      then_do (reaching f (stand_of with) (m.account s))
+      (λ u. then_do (run with s) (λ e. then_do (add e.results r (m.account e.state)) (λ x. gathers f run add set later x.result (set x.account e.state))))
