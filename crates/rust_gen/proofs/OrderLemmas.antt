@@ -176,5 +176,5 @@ asked-more before x old asked new e f =
     ∙ ap (λ xs. old ++ xs) (sym (flat_map-append (λ x. x.1) before (x ∷ []) ∙ ap (λ xs. asked_with before ++ xs) (append-nil x.1)))
 
 -- a signature asks, and then a body
-pub asked-both : (old asked new named signature runtime slice : List RuntimeItem) → asked ≡ old ++ named → new ≡ asked ++ slice → slice ≡ runtime → named ≡ signature → new ≡ old ++ (signature ++ runtime)
-asked-both old asked new named signature runtime slice a b c d = b ∙ ap₂ (λ xs ys. xs ++ ys) (a ∙ ap (λ s. old ++ s) d) c ∙ append_assoc old signature runtime
+pub asked-both : (old asked new signature runtime slice : List RuntimeItem) → asked ≡ old ++ signature → new ≡ asked ++ slice → slice ≡ runtime → new ≡ old ++ (signature ++ runtime)
+asked-both old asked new signature runtime slice a b c = b ∙ ap₂ (λ xs ys. xs ++ ys) a c ∙ append_assoc old signature runtime

@@ -1,11 +1,12 @@
 //! The wrapper of an exported function.
 
-ghost use Rattle.std.specs.Prelude.{◌≡◌, ◌∷◌, true, IfOk, OnOk};
+ghost use Rattle.std.specs.Prelude.{◌≡◌, ◌∷◌, true, length, IfOk, OnOk};
 ghost use Rattle.wit_model.specs.Distinct.{is_distinct};
 ghost use Rattle.wit_model.specs.IndexRange.{function_in_range};
 ghost use Rattle.wit_model.specs.WellFormed.{IsWellFormed};
 ghost use Rattle.gen_accept.specs.DeclaredNames.{guest_name};
 ghost use Rattle.wrapper_faithful.specs.Passed.{passed};
+ghost use Rattle.abi_driver.specs.Exports.{export_params};
 ghost use Rattle.wrapper_closing.specs.Bodies.{calls_method};
 ghost use Rattle.wrapper_closing.specs.Params.{arg_names, export_args, ret_area};
 ghost use Rattle.wrapper_closing.specs.Parts.{CanWriteFunction};
@@ -81,23 +82,27 @@ fn code_of(body: Body) -> ExportCode
     }
 }
 
-/// The code of the wrapper of an exported function, which calls its method, and keeps a value where the function has one.
+/// The code of the wrapper of an exported function with these core parameters, which calls its method, and keeps a value where the
+/// function has one.
 fn export_code(
     alloc: Global,
     resolve: &Resolve,
     tables: &TypeTables,
     f: &Function,
+    params: &[CoreParam],
 ) -> Result<ExportCode, OutOfMemory>
     requires well { IsWellFormed resolve.now }
     requires within { function_in_range resolve.now f.now ≡ true }
     requires code { HasCode resolve.now.types f.now }
     requires writes { CanWriteFunction resolve.now.types tables.now.sites f.now }
     requires tables { AreAtHand resolve.now.types tables.now }
+    requires params { params.now ≡ export_args (passed resolve.now.types f.now) }
+    requires many { length params.now ≡ length (export_params resolve.now.types f.now) }
+    requires distinct { is_distinct (ret_area ∷ arg_names params.now) ≡ true }
     ensures made { IfOk result (IsExportCode resolve.now.types tables.now.sites f.entry) }
     ensures calls { IfOk result (λ code. CallsMethodOf f.now code.call) }
 {
-    let params = core_params(alloc, resolve, f)?;
-    let parts = export_parts(alloc, resolve, tables, params.as_slice())?;
+    let parts = export_parts(alloc, resolve, tables, params)?;
     let body = export_body(alloc, resolve, f, parts)?;
     Ok(code_of(body))
 }
@@ -181,14 +186,14 @@ pub(crate) fn export_wrapper(
     requires tables { AreAtHand resolve.now.types tables.now }
     ensures { IfOk result (IsExportMade resolve.now.types tables.now.sites f.now) }
 {
-    let args = core_params(alloc, resolve, f)?;
-    let head = export_head(alloc, f, args)?;
+    let params = core_params(alloc, resolve, f)?;
     let ExportCode {
         call,
         rest,
         area,
         runtime,
-    } = export_code(alloc, resolve, tables, f)?;
+    } = export_code(alloc, resolve, tables, f, params.as_slice())?;
+    let head = export_head(alloc, f, params)?;
     let wrapper = export_fn(resolve, f, head, call, rest);
     Ok(ExportMade {
         wrapper,

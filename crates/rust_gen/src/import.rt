@@ -1,16 +1,13 @@
 //! The wrapper of an imported function.
 
-ghost use Rattle.std.specs.Prelude.{◌≡◌, true, IfOk, OnOk, map};
+ghost use Rattle.std.specs.Prelude.{◌≡◌, true, IfOk};
 ghost use Rattle.wit_model.specs.Distinct.{is_distinct};
 ghost use Rattle.wit_model.specs.IndexRange.{function_in_range};
 ghost use Rattle.wit_model.specs.WellFormed.{IsWellFormed};
-ghost use Rattle.rust_tree.specs.Asked.{asked_by_signature, asked_in};
 ghost use Rattle.gen_accept.specs.DeclaredNames.{param_idents};
 ghost use Rattle.type_defs.specs.ParamType.{HasFacts};
-ghost use Rattle.type_defs.specs.PartType.{printed_result};
 ghost use Rattle.wrapper_closing.specs.Parts.{CanWriteFunction};
 ghost use Rattle.rust_gen.specs.Body.{AreImportParts, IsImportCode, IsImportHead, IsImportMade};
-ghost use Rattle.rust_gen.specs.FixedName.{IsFixedName};
 ghost use Rattle.rust_gen.specs.Known.{AreAtHand, HasCode};
 ghost use Rattle.rust_gen.specs.Wrapper.{printed_param, root_module};
 
@@ -19,9 +16,9 @@ use crate::signature::{printed_params, printed_result};
 use crate::sites::import_sites;
 use func_gen::TypeTables;
 use gen_accept::param_idents;
-use rust_tree::{Block, FnItem, FnParam, Item, RuntimeItem, TypeExpr, to_rust_ident};
+use rust_tree::{Block, FnItem, FnParam, RuntimeItem, TypeExpr, to_rust_ident};
 use std::alloc::Global;
-use type_defs::{doc_lines, one};
+use type_defs::doc_lines;
 use type_facts::Types;
 use wit_model::{Function, List, OutOfMemory, Resolve, Text};
 use wrapper_closing::{BodyParts, import_block, import_body};
@@ -43,14 +40,6 @@ fn root_module(alloc: Global) -> Result<Text, OutOfMemory>
     Text::from_str(alloc, "$root")
 }
 
-/// The fixed name of the body that begins with `base`, which no parameter has.
-fn name_beside(alloc: Global, f: &Function, base: &str) -> Result<Text, OutOfMemory>
-    ensures { IfOk result (IsFixedName (param_idents f.now) base.now) }
-{
-    let params = param_idents(alloc, f.params.as_slice())?;
-    fixed_name(alloc, params.as_slice(), base)
-}
-
 fn import_parts<'a>(
     alloc: Global,
     resolve: &Resolve,
@@ -63,8 +52,9 @@ fn import_parts<'a>(
     ensures { IfOk result (AreImportParts resolve.now.types tables.now.sites f.now) }
 {
     let home = root_module(alloc)?;
-    let area = name_beside(alloc, f, "ret_area")?;
-    let cleanup = name_beside(alloc, f, "cleanup_list")?;
+    let names = param_idents(alloc, f.params.as_slice())?;
+    let area = fixed_name(alloc, names.as_slice(), "ret_area")?;
+    let cleanup = fixed_name(alloc, names.as_slice(), "cleanup_list")?;
     let params = import_sites(alloc, f.params.as_slice())?;
     Ok(BodyParts {
         tables,
@@ -132,25 +122,6 @@ fn import_fn(head: ImportHead, body: Block) -> FnItem
         result,
         body,
     }
-}
-
-/// The wrapper of an imported function as it looks from outside, alone and with an empty body.
-pub(crate) fn outside_items(
-    alloc: Global,
-    resolve: &Resolve,
-    facts: &Types,
-    f: &Function,
-) -> Result<List<Item>, OutOfMemory>
-    requires facts { HasFacts resolve.now facts.now }
-    requires within { function_in_range resolve.now f.now ≡ true }
-    ensures { IfOk result (λ items. asked_in items ≡ asked_by_signature (map (printed_param resolve.now.types) f.now.params) (printed_result resolve.now.types f.now.result)) }
-{
-    let head = import_head(alloc, resolve, facts, f)?;
-    let body = Block {
-        stmts: List::new(alloc),
-        tail: None,
-    };
-    one(alloc, Item::Import(import_fn(head, body)))
 }
 
 /// The wrapper of an imported function, and the items of `_rt` that its body asks for.

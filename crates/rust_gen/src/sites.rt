@@ -21,10 +21,11 @@ fn site_expr(ty: WitType, name: Text) -> Expr
 fn import_site(alloc: Global, p: &Param) -> Result<ParamSite, OutOfMemory>
     ensures { IfOk result (λ site. site ≡ import_site p.now) }
 {
-    let expr = site_expr(p.ty, to_rust_ident(alloc, &p.name)?);
+    let name = to_rust_ident(alloc, &p.name)?;
+    let expr = site_expr(p.ty, name.copy(alloc)?);
     Ok(ParamSite {
         operand: ExprOperand { expr, kept: false },
-        name: to_rust_ident(alloc, &p.name)?,
+        name,
     })
 }
 

@@ -10,14 +10,12 @@ ghost use Rattle.rust_tree.specs.declared.export.PostReturnFn.{PostReturnFn};
 ghost use Rattle.rust_tree.specs.declared.item.FnItem.{FnItem};
 ghost use Rattle.rust_tree.specs.declared.item.Item.TheVariants as item;
 ghost use Rattle.rust_tree.specs.declared.runtime_item.RuntimeItem.{RuntimeItem};
-ghost use Rattle.rust_tree.specs.Asked.{asked_by_signature};
 ghost use Rattle.gen_accept.specs.Area.{needs_return};
 ghost use Rattle.gen_accept.specs.DeclaredNames.{param_idents};
 ghost use Rattle.gen_accept.specs.Emitted.{imported_functions};
 ghost use Rattle.gen_accept.specs.InRange.{AreInRange};
 ghost use Rattle.type_defs.specs.Levels.{are_shallow};
 ghost use Rattle.type_defs.specs.ParamType.{HasFacts};
-ghost use Rattle.type_defs.specs.PartType.{printed_result};
 ghost use Rattle.type_sites.specs.Sites.{type_sites};
 ghost use Rattle.wrapper_meaning.specs.Represents.{is_indirect};
 ghost use Rattle.wrapper_meaning.specs.Shape.{result_shape};
@@ -25,39 +23,21 @@ ghost use Rattle.wrapper_closing.specs.Parts.{CanWriteFunction};
 ghost use Rattle.rust_gen.specs.Asking.{ExportAsks, ImportAsks, ReturnAsks, WrapperAsks, asked_with, bare};
 ghost use Rattle.rust_gen.specs.Bound.{Parts, areas_of, export_items, return_items};
 ghost use Rattle.rust_gen.specs.Known.{AreAtHand, CanWriteFunctions, CanWriteTypes, HasCode, HaveCode, HaveDistinctParams};
-ghost use Rattle.rust_gen.specs.Wrapper.{printed_param};
 
 use crate::export::{ExportMade, export_wrapper};
-use crate::import::{import_wrapper, outside_items};
+use crate::import::import_wrapper;
 use crate::post_return::post_return;
 use crate::tables::type_tables;
 use abi_bindgen::Asked;
 use func_gen::TypeTables;
 use gen_accept::{functions_in, needs_return};
-use rust_tree::{Item, RuntimeItem, asked_in};
+use rust_tree::{Item, RuntimeItem, ask_by_signature};
 use std::alloc::Global;
 use type_facts::Types;
 use wit_model::{Function, List, OutOfMemory, Resolve, World, WorldId};
 
-/// Puts what the signature of an import's wrapper names of `_rt` behind other items of it.
-fn ask_by_signature(
-    alloc: Global,
-    resolve: &Resolve,
-    facts: &Types,
-    asked: &mut List<RuntimeItem>,
-    f: &Function,
-) -> Result<(), OutOfMemory>
-    requires within { function_in_range resolve.now f.now ≡ true }
-    requires facts { HasFacts resolve.now facts.now }
-    ensures { OnOk result
-        (asked.new ≡ asked.old ++ asked_by_signature (map (printed_param resolve.now.types) f.now.params) (printed_result resolve.now.types f.now.result)) }
-{
-    let outside = outside_items(alloc, resolve, facts, f)?;
-    let named = asked_in(alloc, outside.as_slice())?;
-    asked.extend_from_slice(named.as_slice())
-}
-
-/// Puts the wrapper of an imported function behind other items, and what it asks for of `_rt` behind other items of that.
+/// Puts the wrapper of an imported function behind other items, and what it asks for of `_rt` behind other items of that: by its
+/// signature, and then by its body.
 fn push_import(
     alloc: Global,
     resolve: &Resolve,
@@ -77,8 +57,8 @@ fn push_import(
     ensures { OnOk result
         ((i : FnItem × List RuntimeItem) × (items.new ≡ items.old ++ item.Import i.0 ∷ []) × (asked.new ≡ asked.old ++ i.1) × ImportAsks resolve.now.types tables.now.sites f.now i) }
 {
-    ask_by_signature(alloc, resolve, facts, asked, f)?;
     let (wrapper, runtime) = import_wrapper(alloc, resolve, facts, tables, f)?;
+    ask_by_signature(asked, wrapper.params.as_slice(), &wrapper.result)?;
     items.push(Item::Import(wrapper))?;
     asked.extend_from_slice(runtime.as_slice())?;
     Ok(())

@@ -256,7 +256,9 @@ fn ask_by_params(asked: &mut List<RuntimeItem>, params: &[FnParam]) -> Result<()
     Ok(())
 }
 
-fn ask_by_signature(
+/// Puts the items of `_rt` that a signature names behind those that were asked for: by its parameters, and then by its result, each as
+/// often as it is named. Where memory is refused some of them may stand there.
+pub fn ask_by_signature(
     asked: &mut List<RuntimeItem>,
     params: &[FnParam],
     ty: &TypeExpr,

@@ -27,7 +27,7 @@ mod well_named;
 mod wrappers;
 
 pub use area::{ReturnArea, StaticArea};
-pub use asked::asked_in;
+pub use asked::{ask_by_signature, asked_in};
 pub use bindings::Bindings;
 pub use enum_item::{EnumCase, EnumItem, ErrorCase, ErrorEnum};
 pub use error_type::ErrorType;

@@ -1,6 +1,6 @@
 //! The core parameters of exports and of their post-return functions, and the core results.
 
-ghost use Rattle.std.specs.Prelude.{◌≡◌, ◌≤◌, ◌++◌, ◌∷◌, true, length, option_to_list, take, IfOk, OnOk};
+ghost use Rattle.std.specs.Prelude.{◌≡◌, ◌≤◌, ◌+◌, ◌++◌, ◌∷◌, true, length, option_to_list, take, IfOk, OnOk};
 ghost use Rattle.wit_model.specs.Distinct.{is_distinct};
 ghost use Rattle.wit_model.specs.IndexRange.{function_in_range};
 ghost use Rattle.wit_model.specs.WellFormed.{IsWellFormed};
@@ -23,13 +23,14 @@ fn arg_name(alloc: Global, n: u32) -> Result<Text, OutOfMemory>
     Ok(name)
 }
 
-/// Puts core parameters that are numbered from `n` behind others. There is no memory also where a number would pass a `u32`.
+/// Puts core parameters that are numbered from `n` behind others.
 fn push_args(
     alloc: Global,
     args: &mut List<CoreParam>,
     n: u32,
     types: &[WasmType],
 ) -> Result<(), OutOfMemory>
+    requires few { n + length types.now ≤ 16 }
     ensures { OnOk result (args.new ≡ args.old ++ core_args n types.now) }
 {
     match types.split_first() {
@@ -37,14 +38,14 @@ fn push_args(
         Some((ty, types)) => {
             let name = arg_name(alloc, n)?;
             args.push(CoreParam { name, ty: *ty })?;
-            let next = n.checked_add(1).ok_or(OutOfMemory)?;
-            push_args(alloc, args, next, types)
+            push_args(alloc, args, n + 1, types)
         }
     }
 }
 
 /// Core parameters of these types, numbered from 0.
 fn core_args(alloc: Global, types: &[WasmType]) -> Result<List<CoreParam>, OutOfMemory>
+    requires few { length types.now ≤ 16 }
     ensures { IfOk result (λ args. args ≡ core_args 0 types.now) }
 {
     let mut args = List::new(alloc);

@@ -14,5 +14,5 @@ post_return_body-requires-clause-some c =
     let words = result_words (result_shape c.args.resolve.now.types c.args.f.now) in
     let one = ap (λ (b : Bool). core_args 0 (if b then Pointer ∷ [] else words)) c.requires.indirect in
     let count : length c.in_ok-parts.parts.params ≡ 1 =
-    ap length c.in_ok-parts.ensures.params ∙ ap (λ (args : List CoreParam). length (local_sites (arg_names args))) (c.as_slice.ensures ∙ c.in_ok-params.ensures.args ∙ one) in
+    ap length c.in_ok-parts.ensures.params ∙ ap (λ (args : List CoreParam). length (local_sites (arg_names args))) (c.requires.params ∙ one) in
     omega (arith, count)

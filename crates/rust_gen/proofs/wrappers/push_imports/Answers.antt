@@ -1,4 +1,4 @@
-use Rattle.std.proofs.Common.{◌≡◌, true, List, [], ◌∷◌, ◌++◌, Option, ◌∙◌, ap, map, sym, append_assoc, arith, subst}
+use Rattle.std.proofs.Common.{◌≡◌, true, [], ◌∷◌, ◌++◌, ◌∙◌, ap, map, sym, append_assoc, arith}
 use Rattle.std.proofs.lemmas.List.{map-append}
 use Rattle.wit_model.specs.Distinct.{is_distinct}
 use Rattle.wit_model.specs.IndexRange.{function_in_range}
