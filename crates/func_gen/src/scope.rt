@@ -52,13 +52,15 @@ fn is_free(
     Ok(true)
 }
 
+/// Puts the names with this number behind the others. Where there is no memory some of them may stand there.
 fn use_names(
     alloc: Global,
     used: &mut Names,
     names: &[LocalName<'_>],
     t: u32,
 ) -> Result<(), OutOfMemory>
-    ensures { OnOk result (used.new ≡ used.old ++ names_at names.now t) }
+    ensures used { OnOk result (used.new ≡ used.old ++ names_at names.now t) }
+    ensures keeps { Keeps used.old used.new }
 {
     for name in names {
         used.push(alloc, numbered(alloc, *name, t)?.as_str())?;
@@ -108,9 +110,7 @@ impl Scope {
             return Ok(self.next);
         }
         let t = free_number(alloc, &self.used, self.next, names)?;
-        let mut used = self.used.share(alloc)?;
-        use_names(alloc, &mut used, names, t)?;
-        self.used = used;
+        use_names(alloc, &mut self.used, names, t)?;
         self.next = t + 1;
         Ok(t)
     }
