@@ -33,9 +33,10 @@ use Rattle.wrapper_run.specs.Places.{area_block, area_in, is_fitting, place_area
 use Rattle.wrapper_run.specs.Run.{eval, run_stmts}
 use Rattle.wrapper_run.proofs.GiveSteps.{eval-static}
 use Rattle.wrapper_run.proofs.QuietSteps.{quiet_static}
-use Rattle.wrapper_run.proofs.StepLemmas.{Quiet, quiet_or_stop}
 use Rattle.wrapper_run.proofs.StmtSteps.{runs-let}
 use Rattle.wrapper_run.proofs.TakeLemmas.{area_gives, eval-return_pointer}
+use Rattle.wrapper_run.specs.Inward.{CallsNothing}
+use Rattle.wrapper_run.proofs.QuietActs.{quiet_or_stop}
 use Rattle.abi_bindgen.specs.declared.bindgen.Asked.{Asked}
 use Rattle.abi_bindgen.specs.Account.{Done, Follows, Got, Outcome, Peer, Stopped, Stuck}
 use Rattle.abi_bindgen.specs.Area.{HoldsRecord, IsAlignment, newly, placed, pointing}
@@ -95,16 +96,16 @@ noted_grows a b aligned = record {
 
 -- 2. The two pointers make no call
 
-quiet_return_pointer : (w : Setting) (name : Bytes) → Quiet (eval w (expr.ReturnPointer name))
+quiet_return_pointer : (w : Setting) (name : Bytes) → CallsNothing (eval w (expr.ReturnPointer name))
 unfolding ask_local
 quiet_return_pointer w name =
-    subst Quiet (sym (eval-return_pointer w name))
+    subst CallsNothing (sym (eval-return_pointer w name))
     (record { quiet = λ s. (quiet_or_stop (stuck w) (option_map val.Word (option_and_then (view view_of.AreaAddress) (value_of (local_named name s.locals))))).quiet s })
 
-quiet_pointer : (b : FunctionBindgen) (w : Setting) → Quiet (eval w (area_pointer b))
+quiet_pointer : (b : FunctionBindgen) (w : Setting) → CallsNothing (eval w (area_pointer b))
 quiet_pointer b w = go b.import
   where
-    go : (c : Bool) → Quiet (eval w (if c then expr.ReturnPointer b.area else expr.StaticPointer))
+    go : (c : Bool) → CallsNothing (eval w (if c then expr.ReturnPointer b.area else expr.StaticPointer))
     go true = quiet_return_pointer w b.area
     go false = quiet_static w
 

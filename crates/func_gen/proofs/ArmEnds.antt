@@ -11,12 +11,11 @@ use Rattle.wrapper_values.specs.Act.{Act, Outcome, Done, Stopped, ◌>>◌, and_
 use Rattle.wrapper_values.specs.Owning.{owned_in}
 use Rattle.wrapper_values.specs.Setting.{Setting}
 use Rattle.wrapper_run.specs.Blocks.{drop_locals, in_scope, keep_locals, leave_to}
-use Rattle.wrapper_run.specs.Growth.{state_of}
-use Rattle.wrapper_run.specs.Inward.{AskedAlike, AsksNothing}
 use Rattle.wrapper_run.specs.OuterLocals.{EndsBehind, IsInReach, OwnNothing, RunsBehind, behind_all}
-use Rattle.wrapper_run.proofs.AskLemmas.{asks_scope, asks_then}
 use Rattle.wrapper_run.proofs.OuterLemmas.{add_locals}
 use Rattle.wrapper_run.proofs.OwningLemmas.{drops_plain}
+use Rattle.wrapper_run.specs.Inward.{CallsNothing}
+use Rattle.wrapper_run.proofs.QuietActs.{calls_at, quiet_scope, quiet_then}
 
 -- 1. Locals that own nothing
 
@@ -85,8 +84,9 @@ module _ {A : Type 0} (w : Setting) (found extra added : List Local) (s : State)
   arm_stops enter h e t ns stopped =
       let (locals, same) = subst (λ o. EndsBehind found (s.locals ++ extra) s.place o (act outer)) stopped alike ns in (locals, begins enter h ∙ ap leaving same)
 
-  -- an arm makes no call and no request
-  pub arm_asks : AsksNothing act → (enter : Act (Unit {0})) → Enters enter → AskedAlike s (state_of (arm_scope enter))
-  arm_asks asks enter h =
-      let adds : AsksNothing (add_locals (extra ++ added)) = record { nothing = λ t. record { calls = refl; requests = refl } } in
-      subst (λ o. AskedAlike s (state_of (leaving (and_then o (λ _. act))))) (sym h) ((asks_scope w (add_locals (extra ++ added) >> act) (asks_then (add_locals (extra ++ added)) (λ _. act) adds (λ _. asks))).nothing s)
+  -- an arm makes no call
+  pub arm_quiet : CallsNothing act → (enter : Act (Unit {0})) → Enters enter → calls_at (arm_scope enter) ≡ s.calls
+  arm_quiet quiet enter h =
+      let adds : CallsNothing (add_locals (extra ++ added)) = record { quiet = λ t. refl } in
+      subst (λ o. calls_at (leaving (and_then o (λ _. act))) ≡ s.calls) (sym h)
+      ((quiet_scope w (add_locals (extra ++ added) >> act) (quiet_then (add_locals (extra ++ added)) (λ _. act) adds (λ _. quiet))).quiet s)

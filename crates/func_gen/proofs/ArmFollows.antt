@@ -3,7 +3,6 @@ use Rattle.std.proofs.Common.{◌≡◌, ℕ, Bool, true, false, List, [], ◌�
 use Rattle.std.specs.Prelude.{◌≢◌}
 use Rattle.rust_tree.specs.declared.stmt.MatchNames.{MatchNames}
 use Rattle.rust_tree.specs.declared.stmt.MatchNames.TheVariants as names_of
-use Rattle.wit_model.specs.Bytes.{Bytes}
 use Rattle.wrapper_data.specs.declared.run.Stop.{Stop}
 use Rattle.wrapper_data.specs.declared.run.Stop.TheVariants as stop_of
 use Rattle.wrapper_data.specs.declared.value.RustValue.{RustValue}
@@ -12,15 +11,13 @@ use Rattle.wrapper_values.specs.declared.state.State.{State}
 use Rattle.wrapper_values.specs.declared.state.Val.{Val}
 use Rattle.wrapper_values.specs.Act as machine
 use Rattle.wrapper_values.specs.Act.{◌>>◌, and_then}
-use Rattle.wrapper_values.specs.Locals.{bind}
-use Rattle.wrapper_values.specs.Matches.{bind_results, bind_values}
-use Rattle.wrapper_values.specs.Setting.{Setting, stuck}
+use Rattle.wrapper_values.specs.Matches.{bind_results}
+use Rattle.wrapper_values.specs.Setting.{Setting}
 use Rattle.wrapper_run.specs.Blocks.{in_scope}
-use Rattle.wrapper_run.specs.Growth.{state_of}
-use Rattle.wrapper_run.specs.Inward.{AskedAlike, AsksNothing}
 use Rattle.wrapper_run.specs.OuterLocals.{IsInReach, OwnNothing, RunsBehind}
-use Rattle.wrapper_run.proofs.AskLemmas.{asks_bind, asks_pure, asks_stop, asks_then}
-use Rattle.wrapper_run.proofs.StepLemmas.{calls_at}
+use Rattle.wrapper_run.specs.Inward.{CallsNothing}
+use Rattle.wrapper_run.proofs.InwardCalls.{results_quiet}
+use Rattle.wrapper_run.proofs.QuietActs.{calls_at}
 use Rattle.abi_bindgen.specs.Account.{Done, Follows, Outcome, Peer, Stopped, Stuck, account_in, then_do}
 use Rattle.abi_bindgen.specs.Arms.{Armed, arm}
 use Rattle.abi_bindgen.specs.Laws.{Data}
@@ -30,44 +27,20 @@ use Rattle.func_gen.specs.declared.function_bindgen.FinishedBlock.{FinishedBlock
 use Rattle.func_gen.specs.Entered.{entered, is_nothing, reached}
 use Rattle.func_gen.specs.Finished.{data_of, left_owners, outside, results_act, slot_before}
 use Rattle.func_gen.specs.Meaning.{File, FuncState, account_of, call_of, done_block, ended_block, func_meaning, run_finished, seen, setting_for}
-use Rattle.func_gen.proofs.ArmEnds.{arm_asks, arm_ends, arm_stops}
+use Rattle.func_gen.proofs.ArmEnds.{arm_ends, arm_quiet, arm_stops}
 use Rattle.func_gen.proofs.ArmReach.{Unused, reached_beside}
 use Rattle.func_gen.proofs.Steps.{seen_calls}
 
--- 1. What is bound asks nothing
+-- 1. Calls behind an act
 
-asks_values : (w : Setting) (names : List Bytes) (vs : List Val) → AsksNothing (bind_values w names vs)
-asks_values w [] [] = asks_pure tt
-asks_values w [] (v ∷ vs) = asks_stop (stuck w)
-asks_values w (n ∷ names) [] = asks_stop (stuck w)
-asks_values w (n ∷ names) (v ∷ vs) = asks_then (bind n v) (λ _. bind_values w names vs) (asks_bind n v) (λ _. asks_values w names vs)
-
-pub asks_results : (w : Setting) (names : MatchNames) (vs : List Val) → AsksNothing (bind_results w names vs)
-asks_results w names_of.Nothing vs = asks_values w [] vs
-asks_results w (names_of.One name) [] = asks_stop (stuck w)
-asks_results w (names_of.One name) (v ∷ []) = asks_bind name v
-asks_results w (names_of.One name) (v ∷ u ∷ vs) = asks_stop (stuck w)
-asks_results w (names_of.Parts []) vs = asks_stop (stuck w)
-asks_results w (names_of.Parts (n ∷ [])) vs = asks_stop (stuck w)
-asks_results w (names_of.Parts (n ∷ m ∷ names)) vs = asks_values w (n ∷ m ∷ names) vs
-
--- an act that asks nothing leaves the calls as they were
-pub calls_kept : {A : Type 0} (act : machine.Act A) (s : State) → AsksNothing act → calls_at (act s) ≡ s.calls
-calls_kept {A} act s asks = go (act s) (asks.nothing s)
-  where
-    go : (o : machine.Outcome A) → AskedAlike s (state_of o) → calls_at o ≡ s.calls
-    go (machine.Done a t) h = h.calls
-    go (machine.Stopped e t) h = h.calls
-
--- and behind it, too
-pub calls_behind : {A B : Type 0} (o : machine.Outcome A) (f : A → machine.Act B) (s : State) → calls_at o ≡ s.calls → ((a : A) → AsksNothing (f a)) → calls_at (and_then o f) ≡ s.calls
-calls_behind (machine.Done a t) f s h asks = calls_kept (f a) t (asks a) ∙ h
-calls_behind (machine.Stopped e t) f s h asks = h
+pub calls_behind : {A B : Type 0} (o : machine.Outcome A) (f : A → machine.Act B) (s : State) → calls_at o ≡ s.calls → ((a : A) → CallsNothing (f a)) → calls_at (and_then o f) ≡ s.calls
+calls_behind (machine.Done a t) f s h quiet = (quiet a).quiet t ∙ h
+calls_behind (machine.Stopped e t) f s h quiet = h
 
 -- 2. One arm
 
 module _ (w : File) (p : Peer RustValue) (b : FinishedBlock) (names : MatchNames) (s : FuncState) (extra : List Local) (unused : Unused b.names extra) (plain : OwnNothing extra)
-    (act : machine.Act (List Val)) (behind : RunsBehind act) (asks : AsksNothing act) (wrap : List Val → machine.Act (List Val)) (wrap_asks : (vs : List Val) → AsksNothing (wrap vs))
+    (act : machine.Act (List Val)) (behind : RunsBehind act) (quiet : CallsNothing act) (wrap : List Val → machine.Act (List Val)) (wrap_quiet : (vs : List Val) → CallsNothing (wrap vs))
     (wraps : (t : State) → act t ≡ and_then (results_act (setting_for w p) b t) wrap) (enter : machine.Act (Unit {0})) (enters : enter s.machine ≡ machine.Done tt (record s.machine { locals = s.machine.locals ++ (extra ++ []) }))
     (fits : Data func_meaning → Bool) (i : ℕ) (P : Went func_meaning (Armed func_meaning) → FuncState → Type 0) where
   abbrev set : Setting
@@ -111,14 +84,10 @@ module _ (w : File) (p : Peer RustValue) (b : FinishedBlock) (names : MatchNames
 
   -- no call is made, neither by the block nor by the arm
   block_calls : (vs : List Val) (u : State) → results_act set b begun ≡ machine.Done vs u → u.calls ≡ s.machine.calls
-  block_calls vs u e = sym (calls_kept (wrap vs) u (wrap_asks vs)) ∙ sym (ap calls_at (as_given (machine.Done vs u) e)) ∙ calls_kept act begun asks
+  block_calls vs u e = sym ((wrap_quiet vs).quiet u) ∙ sym (ap calls_at (as_given (machine.Done vs u) e)) ∙ quiet.quiet begun
 
   arm_calls : calls_at bound ≡ s.machine.calls
-  arm_calls = calls_behind in_arm (bind_results set names) s.machine (go in_arm (arm_asks set found extra [] s.machine act reach plain behind asks enter enters)) (asks_results set names)
-    where
-      go : (o : machine.Outcome (List Val)) → AskedAlike s.machine (state_of o) → calls_at o ≡ s.machine.calls
-      go (machine.Done a t) h = h.calls
-      go (machine.Stopped e t) h = h.calls
+  arm_calls = calls_behind in_arm (bind_results set names) s.machine (arm_quiet set found extra [] s.machine act reach plain behind quiet enter enters) (results_quiet set names)
 
   no_meaning : (u : State) → u.calls ≡ s.machine.calls → (account_in func_meaning.account (seen s.area bound)).calls ≡ (account_of u).calls
   no_meaning u e = seen_calls s.area bound ∙ ap (map call_of) (arm_calls ∙ sym e)
@@ -151,7 +120,7 @@ module _ (w : File) (p : Peer RustValue) (b : FinishedBlock) (names : MatchNames
       (record u { locals = locals; place = s.machine.place }, ap (λ o. and_then o (bind_results set names)) same, refl)
 
   by_stop : (e : Stop) (u : State) → results_act set b begun ≡ machine.Stopped e u → AsLaw (ended_block b s (machine.Stopped e u))
-  by_stop (stop_of.Stuck n) u is = no_meaning u (sym (ap calls_at (as_given (machine.Stopped (stop_of.Stuck n) u) is)) ∙ calls_kept act begun asks)
+  by_stop (stop_of.Stuck n) u is = no_meaning u (sym (ap calls_at (as_given (machine.Stopped (stop_of.Stuck n) u) is)) ∙ quiet.quiet begun)
   by_stop stop_of.Done u is = let (t, same, account) = stopped stop_of.Done u (λ n z. absurd cc) is in ap (seen s.area) same ∙ ap (λ a. Stopped stop_of.Done a) account
   by_stop (stop_of.Refused r) u is = let (t, same, account) = stopped (stop_of.Refused r) u (λ n z. absurd cc) is in ap (seen s.area) same ∙ ap (λ a. Stopped (stop_of.Refused r) a) account
   by_stop (stop_of.Trap k) u is = let (t, same, account) = stopped (stop_of.Trap k) u (λ n z. absurd cc) is in ap (seen s.area) same ∙ ap (λ a. Stopped (stop_of.Trap k) a) account

@@ -6,7 +6,7 @@ use Rattle.rust_tree.specs.declared.runtime_item.RuntimeItem.{RuntimeItem}
 use Rattle.rust_tree.specs.declared.stmt.Stmt.{Stmt}
 use Rattle.wrapper_values.specs.Setting.{Setting}
 use Rattle.wrapper_run.specs.Run.{run_stmts}
-use Rattle.wrapper_run.proofs.StepLemmas.{Quiet}
+use Rattle.wrapper_run.specs.Inward.{CallsNothing}
 use Rattle.abi_bindgen.specs.Instructions.{AddsCode}
 use Rattle.abi_bindgen.specs.Laws as law
 use Rattle.func_gen.specs.declared.function_bindgen.FinishedBlock.{FinishedBlock}
@@ -43,7 +43,7 @@ module _ (b : FunctionBindgen) (f : List FinishedBlock) where
   }
 
 module _ (old mid new : FunctionBindgen) (n : ℕ) (used : List FinishedBlock) (uses : Uses used n old mid) (stmts : List Stmt) (items : List RuntimeItem) (a : Appends mid new stmts items)
-    (names : (k : Bytes) → is_used new.scope.used k ≡ false → is_used mid.scope.used k ≡ false) (quiet : (w : Setting) → Quiet (run_stmts w stmts)) where
+    (names : (k : Bytes) → is_used new.scope.used k ≡ false → is_used mid.scope.used k ≡ false) (quiet : (w : Setting) → CallsNothing (run_stmts w stmts)) where
   adds : law.Adds func_meaning mid new
   adds = func_adds mid new stmts items a names quiet
 

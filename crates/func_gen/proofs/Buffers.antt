@@ -28,7 +28,8 @@ use Rattle.wrapper_run.proofs.GiveSteps.{let_runs}
 use Rattle.wrapper_run.proofs.LocalLemmas.{reads-new, reads-past}
 use Rattle.wrapper_run.proofs.OwningLemmas.{buffer-text, no_buffer-f32, no_buffer-f64, no_buffer-number}
 use Rattle.wrapper_run.proofs.QuietSteps.{quiet_as_ptr, quiet_len, quiet_let}
-use Rattle.wrapper_run.proofs.StepLemmas.{Quiet, as_ptr_gives, len_gives}
+use Rattle.wrapper_run.proofs.StepLemmas.{as_ptr_gives, len_gives}
+use Rattle.wrapper_run.specs.Inward.{CallsNothing}
 use Rattle.abi_bindgen.specs.Meaning.{Fact, item, of, word}
 use Rattle.func_gen.specs.declared.function_bindgen.FunctionBindgen.{FunctionBindgen}
 use Rattle.func_gen.specs.declared.operand.ExprOperand.{ExprOperand}
@@ -126,7 +127,7 @@ owns_buffer f s t p n o =
     let s2 = with_local s1 (ptr_name t) (val.Word (core.Pointer p)) in
     omega (arith, owns_with f s (vec_name t) (buffer_val p n o), owns_with f s1 (ptr_name t) (val.Word (core.Pointer p)), owns_with f s2 (len_name t) (val.Word (core.Length n)))
 
-pub quiet_buffer : (w : Setting) (t : ℕ) (e : Expr) (more : List Stmt) → Quiet (eval w e) → Quiet (run_stmts w more) → Quiet (run_stmts w (buffer_stmts t e ++ more))
+pub quiet_buffer : (w : Setting) (t : ℕ) (e : Expr) (more : List Stmt) → CallsNothing (eval w e) → CallsNothing (run_stmts w more) → CallsNothing (run_stmts w (buffer_stmts t e ++ more))
 quiet_buffer w t e more h k =
     quiet_let w (vec_name t) e (stmt.Let (ptr_name t) (expr.AsPtr (vec_name t)) ∷ stmt.Let (len_name t) (expr.Len (vec_name t)) ∷ more) h
     (quiet_let w (ptr_name t) (expr.AsPtr (vec_name t)) (stmt.Let (len_name t) (expr.Len (vec_name t)) ∷ more) (quiet_as_ptr w (vec_name t)) (quiet_let w (len_name t) (expr.Len (vec_name t)) more (quiet_len w (vec_name t)) k))

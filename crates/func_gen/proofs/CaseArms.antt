@@ -16,13 +16,13 @@ use Rattle.wrapper_values.specs.Owning.{owned}
 use Rattle.wrapper_values.specs.Setting.{Setting}
 use Rattle.wrapper_values.specs.Variants.{case_number, number_of_level}
 use Rattle.wrapper_run.specs.Arms.{ArmAct, run_arm, run_arms}
-use Rattle.wrapper_run.specs.Inward.{AsksNothing, is_inward}
+use Rattle.wrapper_run.specs.Inward.{CallsNothing, is_inward}
 use Rattle.wrapper_run.specs.OuterLocals.{RunsBehind}
 use Rattle.wrapper_run.specs.Results.{run_results}
 use Rattle.wrapper_run.specs.Run.{arm_act, eval, run_stmts}
-use Rattle.wrapper_run.proofs.AskLemmas.{asks_within}
 use Rattle.wrapper_run.proofs.InwardWalk.{walks_given}
 use Rattle.wrapper_run.proofs.OuterLemmas.{behind_within}
+use Rattle.wrapper_run.proofs.InwardCalls.{body_quiet}
 use Rattle.abi_bindgen.specs.Meaning.{Bound, the_payload, with_nothing, with_payload}
 use Rattle.func_gen.specs.declared.case_form.CaseForm.{CaseForm}
 use Rattle.func_gen.specs.declared.case_form.CaseForm.TheVariants as form
@@ -120,7 +120,7 @@ pub record Lowerable (w : Setting) (n : ℕ) (b : FinishedBlock) : Type 0 where
   pub many : length b.results ≡ n
   pub gives : run_results w (lowered_body b) ≡ results_act w b
   pub behind : RunsBehind (results_act w b)
-  pub asks : AsksNothing (results_act w b)
+  pub quiet : CallsNothing (results_act w b)
 
 pub is_lowered : (w : Setting) (n : ℕ) (b : FinishedBlock) → is_lowerable n b ≡ true → Lowerable w n b
 is_lowered w n b h =
@@ -132,7 +132,7 @@ is_lowered w n b h =
       many = eqb-true (length b.results) n two.0;
       gives = same;
       behind = subst RunsBehind same (walks_given w (λ A act. RunsBehind act) (behind_within w) (lowered_body b) last.0);
-      asks = subst AsksNothing same (walks_given w (λ A act. AsksNothing act) (asks_within w) (lowered_body b) last.0);
+      quiet = subst CallsNothing same (body_quiet w (lowered_body b) last.0);
     }
 
 pub fit_at : (n i : ℕ) (blocks : List FinishedBlock) (b : FinishedBlock) → list_all (is_lowerable n) blocks ≡ true → slice_get blocks i ≡ Some b → is_lowerable n b ≡ true

@@ -28,8 +28,8 @@ use Rattle.wrapper_run.specs.Blocks.{in_scope}
 use Rattle.wrapper_run.specs.Growth.{state_of}
 use Rattle.wrapper_run.specs.OuterLocals.{IsInReach}
 use Rattle.wrapper_run.specs.Run.{eval, run_stmts}
-use Rattle.wrapper_run.proofs.StepLemmas.{Quiet}
 use Rattle.wrapper_run.proofs.VariantSteps.{match_runs}
+use Rattle.wrapper_run.specs.Inward.{CallsNothing}
 use Rattle.abi_bindgen.specs.Account.{Account, Done, Follows, Outcome, Peer, Stuck, account_in, then_do}
 use Rattle.abi_bindgen.specs.Arms.{Armed, arms, gives_words}
 use Rattle.abi_bindgen.specs.Blocks.{owned_datum}
@@ -104,14 +104,14 @@ module _ (w : File) (p : Peer RustValue) (body : FinishedBlock) (n : ℕ) (fit :
   body_stops e u ns stopped = arm_stops (setting_for w p) (reached body.names s.machine.locals) [] (bindings body.number with) s.machine (results_act (setting_for w p) body) reach tt fit.behind enter enters e u ns stopped
 
   -- it makes no call
-  pub body_asks : (o : machine.Outcome (List Val)) → results_act (setting_for w p) body there ≡ o → (state_of o).calls ≡ s.machine.calls
-  body_asks o is = ap (λ (q : machine.Outcome (List Val)). (state_of q).calls) (sym is) ∙ (fit.asks.nothing there).calls
+  pub body_calls : (o : machine.Outcome (List Val)) → results_act (setting_for w p) body there ≡ o → (state_of o).calls ≡ s.machine.calls
+  body_calls o is = ap (λ (q : machine.Outcome (List Val)). (state_of q).calls) (sym is) ∙ fit.quiet.quiet there
 
 -- 4. The row
 
 module _ (old mid new : FunctionBindgen) (forms : List CaseForm) (e : Expr) (n : ℕ) (names : List Bytes) (used : List FinishedBlock) (taken : Uses used (length forms) old mid) (fit : list_all (is_lowerable n) (reverse used) ≡ true)
     (a : Appends mid new (match_of names e (lowered_arms forms (reverse used)) ∷ []) []) (fresh : FreshAll mid new names) (distinct : is_distinct names ≡ true) (many : length names ≡ n)
-    (numbers : (w : File) → Serves w new → AreNumbered w.items 0 forms) (quiet : (w : Setting) → Quiet (run_stmts w (match_of names e (lowered_arms forms (reverse used)) ∷ []))) where
+    (numbers : (w : File) → Serves w new → AreNumbered w.items 0 forms) (quiet : (w : Setting) → CallsNothing (run_stmts w (match_of names e (lowered_arms forms (reverse used)) ∷ []))) where
   abbrev statement : List Stmt
   statement = match_of names e (lowered_arms forms (reverse used)) ∷ []
 
@@ -232,12 +232,12 @@ module _ (old mid new : FunctionBindgen) (forms : List CaseForm) (e : Expr) (n :
 
       done_with : (vs : List Val) (u : State) → results_act here body (entered (slot_before body) with operand.then) ≡ machine.Done vs u → (left : List ℕ) → left_owners (length (reached body.names operand.then.locals)) u ≡ left → (o : Option (Data func_meaning)) → data_of body.results vs ≡ o
           → Follows func_meaning.account (armed (done_block (is_nothing left) o moved_to u)) (func_meaning.does w p new.code s0) Reached
-      done_with vs u done (x ∷ left) own o is_data = calls_none u (body_asks w p body n one with moved_to enter enters (machine.Done vs u) done)
-      done_with vs u done [] own None is_data = calls_none u (body_asks w p body n one with moved_to enter enters (machine.Done vs u) done)
+      done_with vs u done (x ∷ left) own o is_data = calls_none u (body_calls w p body n one with moved_to enter enters (machine.Done vs u) done)
+      done_with vs u done [] own None is_data = calls_none u (body_calls w p body n one with moved_to enter enters (machine.Done vs u) done)
       done_with vs u done [] own (Some ds) is_data = by (gives_words func_meaning ds) refl
         where
           by : (fit : Bool) → gives_words func_meaning ds ≡ fit → Follows func_meaning.account (fitting fit ds (outside operand.then u)) (func_meaning.does w p new.code s0) Reached
-          by false fit = calls_none u (body_asks w p body n one with moved_to enter enters (machine.Done vs u) done)
+          by false fit = calls_none u (body_calls w p body n one with moved_to enter enters (machine.Done vs u) done)
           by true fit =
               let is = words_data body.results vs ds fit is_data in
               let len : length names ≡ length ds = many ∙ sym one.many ∙ sym is.1 in
@@ -254,7 +254,7 @@ module _ (old mid new : FunctionBindgen) (forms : List CaseForm) (e : Expr) (n :
 
       pub follows : (o : machine.Outcome (List Val)) → results_act here body (entered (slot_before body) with operand.then) ≡ o → Follows func_meaning.account (armed (ended_block body moved_to o)) (func_meaning.does w p new.code s0) Reached
       follows (machine.Done vs u) done = done_with vs u done (left_owners (length (reached body.names operand.then.locals)) u) refl (data_of body.results vs) refl
-      follows (machine.Stopped (stop_of.Stuck k) u) stopped = calls_none u (body_asks w p body n one with moved_to enter enters (machine.Stopped (stop_of.Stuck k) u) stopped)
+      follows (machine.Stopped (stop_of.Stuck k) u) stopped = calls_none u (body_calls w p body n one with moved_to enter enters (machine.Stopped (stop_of.Stuck k) u) stopped)
       follows (machine.Stopped stop_of.Done u) stopped = (stopped_with stop_of.Done u (λ k z. absurd (let no = z in cc)) stopped).1
       follows (machine.Stopped (stop_of.Refused r) u) stopped = (stopped_with (stop_of.Refused r) u (λ k z. absurd (let no = z in cc)) stopped).1
       follows (machine.Stopped (stop_of.Trap t) u) stopped = (stopped_with (stop_of.Trap t) u (λ k z. absurd (let no = z in cc)) stopped).1

@@ -1,5 +1,5 @@
 -- The code of a block, and the case that is made of what it gives: it ends as the block does, and gives the case.
-use Rattle.std.proofs.Common.{◌≡◌, ℕ, ◌≤◌, Bool, true, false, List, [], ◌∷◌, length, map, Option, None, Some, refl, sym, ap, ◌∙◌, subst, arith, rules}
+use Rattle.std.proofs.Common.{◌≡◌, ℕ, ◌≤◌, Bool, true, false, List, [], ◌∷◌, length, map, None, Some, refl, sym, ap, ◌∙◌, subst, arith, rules}
 use Rattle.std.specs.Option.{option_map}
 use Rattle.rust_tree.specs.declared.expr.Expr.{Expr, Expr-F, out-Expr, the_lemmas}
 use Rattle.rust_tree.specs.declared.expr.Expr.TheVariants as expr
@@ -16,14 +16,14 @@ use Rattle.wrapper_values.specs.Act.{Act, Outcome, Done, Stopped, ◌>>=◌, ◌
 use Rattle.wrapper_values.specs.Effect.{rust_of}
 use Rattle.wrapper_values.specs.Setting.{Setting, stuck}
 use Rattle.wrapper_values.specs.Variants.{bare_case, case_number, full_case, with_payload}
-use Rattle.wrapper_run.specs.Inward.{AsksNothing}
 use Rattle.wrapper_run.specs.LastParts.{results, results_in}
 use Rattle.wrapper_run.specs.Results.{run_results}
 use Rattle.wrapper_run.specs.Run.{call, eval, make_case, run_stmts}
-use Rattle.wrapper_run.proofs.AskLemmas.{asks_pure, asks_stop, asks_then}
 use Rattle.wrapper_run.proofs.StepLemmas.{eval-call}
 use Rattle.wrapper_run.proofs.StmtSteps.{code-opened}
 use Rattle.wrapper_run.proofs.VariantSteps.{eval-bare, eval-unit}
+use Rattle.wrapper_run.specs.Inward.{CallsNothing}
+use Rattle.wrapper_run.proofs.QuietActs.{quiet_or_stop, quiet_pure, quiet_stop, quiet_then}
 use Rattle.func_gen.specs.LiftedCases.{case_body, case_expr}
 
 -- one value as the only one
@@ -107,16 +107,12 @@ module _ (w : Setting) where
   unfolding bare_case
   bare_made path n s is = ap (λ o. or_stop (stuck w) (option_map (λ n. val.Value (value.Case n None)) o) s) is.number
 
-  asks_or : {A : Type 0} (o : Option A) → AsksNothing (or_stop (stuck w) o)
-  asks_or None = asks_stop (stuck w)
-  asks_or (Some a) = asks_pure a
-
-  -- it is made without a call and a request
-  pub asks_case : (unit : Bool) (path : Path) (n : ℕ) (vs : List Val) → IsCaseOf path n → AsksNothing (alone (case_of unit path vs))
-  asks_case unit path n vs is = asks_then (case_of unit path vs) (λ x. pure (x ∷ [])) (go unit vs) (λ x. asks_pure (x ∷ []))
+  -- it is made without a call
+  pub quiet_case : (unit : Bool) (path : Path) (n : ℕ) (vs : List Val) → IsCaseOf path n → CallsNothing (alone (case_of unit path vs))
+  quiet_case unit path n vs is = quiet_then (case_of unit path vs) (λ x. pure (x ∷ [])) (go unit vs) (λ x. quiet_pure (x ∷ []))
     where
-      go : (unit : Bool) (vs : List Val) → AsksNothing (case_of unit path vs)
-      go unit (v ∷ []) = subst AsksNothing (sym (is.makes (v ∷ []))) (asks_or (full_case (Some n) v))
-      go true [] = subst AsksNothing (sym (is.makes (val.Value value.Unit ∷ []))) (asks_or (full_case (Some n) (val.Value value.Unit)))
-      go false [] = asks_or (bare_case w.items path)
-      go unit (v ∷ u ∷ vs) = asks_stop (stuck w)
+      go : (unit : Bool) (vs : List Val) → CallsNothing (case_of unit path vs)
+      go unit (v ∷ []) = subst CallsNothing (sym (is.makes (v ∷ []))) (quiet_or_stop (stuck w) (full_case (Some n) v))
+      go true [] = subst CallsNothing (sym (is.makes (val.Value value.Unit ∷ []))) (quiet_or_stop (stuck w) (full_case (Some n) (val.Value value.Unit)))
+      go false [] = quiet_or_stop (stuck w) (bare_case w.items path)
+      go unit (v ∷ u ∷ vs) = quiet_stop (stuck w)

@@ -17,7 +17,6 @@ use Rattle.rust_tree.specs.declared.expr.Expr.{Expr}
 use Rattle.rust_tree.specs.declared.expr.Expr.TheVariants as expr
 use Rattle.rust_tree.specs.declared.stmt.Stmt.{Stmt}
 use Rattle.rust_tree.specs.declared.stmt.Stmt.TheVariants as stmt
-use Rattle.wrapper_data.specs.declared.run.Stop.{Stop}
 use Rattle.wrapper_data.specs.declared.value.RustValue.{RustValue}
 use Rattle.wrapper_data.specs.declared.word.Word.{Word}
 use Rattle.wrapper_data.specs.declared.word.Word.TheVariants as core
@@ -28,13 +27,14 @@ use Rattle.wrapper_values.specs.declared.state.Val.TheVariants as val
 use Rattle.wrapper_values.specs.Act as machine
 use Rattle.wrapper_values.specs.Act.{◌>>=◌, and_then, or_stop}
 use Rattle.wrapper_values.specs.CoreWords.{empty_slot}
-use Rattle.wrapper_values.specs.Locals.{bind, give_local, local_named, slot_with, value_of, write_slot}
+use Rattle.wrapper_values.specs.Locals.{bind, give_local, slot_with, write_slot}
 use Rattle.wrapper_values.specs.Setting.{Setting, stuck}
 use Rattle.wrapper_values.proofs.ChangedLemmas.{changed_last}
 use Rattle.wrapper_run.specs.Run.{eval, run_stmt, run_stmts}
 use Rattle.wrapper_run.proofs.LocalLemmas.{bytes_eq-same, reads-new}
-use Rattle.wrapper_run.proofs.StepLemmas.{Quiet, quiet_bind, quiet_or_stop, quiet_pure, quiet_then}
 use Rattle.wrapper_run.proofs.StmtSteps.{run-slot, run-write, runs-first}
+use Rattle.wrapper_run.specs.Inward.{CallsNothing}
+use Rattle.wrapper_run.proofs.QuietActs.{quiet_bind, quiet_pure, quiet_then, quiet_write}
 use Rattle.abi_bindgen.specs.Constants.{AreCasts, CastsWords, cast_words}
 use Rattle.abi_bindgen.specs.Laws.{Facts, core_data, ofs}
 use Rattle.abi_bindgen.specs.Meaning.{Fact, of, word}
@@ -284,11 +284,7 @@ casted w b at t (c ∷ cs) (o ∷ os) (from ∷ froms) (last ∷ tos) (x ∷ ws)
 
 -- 5. No statement makes a call
 
-quiet_write : (e : Stop) (n : Bytes) (v : Val) → Quiet (write_slot e n v)
-unfolding write_slot
-quiet_write e n v = record { quiet = λ s. (quiet_then (or_stop e (option_and_then (slot_with v) (value_of (local_named n s.locals)))) (give_local n) (quiet_or_stop e _) (λ x. record { quiet = λ s. refl })).quiet s }
-
-quiet_slots : (w : Setting) (at t : ℕ) (cs : List Bitcast) (os : List ExprOperand) → are_operands os ≡ true → Quiet (run_stmts w (stmts_from at cs (exprs_of os) t))
+quiet_slots : (w : Setting) (at t : ℕ) (cs : List Bitcast) (os : List ExprOperand) → are_operands os ≡ true → CallsNothing (run_stmts w (stmts_from at cs (exprs_of os) t))
 quiet_slots w at t [] os ok = quiet_pure tt
 quiet_slots w at t (c ∷ cs) [] ok = quiet_pure tt
 quiet_slots w at t (c ∷ cs) (o ∷ os) ok = go (quiet_slots w (at + 1) t cs os (and_parts (is_operand o.expr) (are_operands os) ok).1) (needs_slot c) refl
@@ -299,15 +295,15 @@ quiet_slots w at t (c ∷ cs) (o ∷ os) ok = go (quiet_slots w (at + 1) t cs os
     more : List Stmt
     more = stmts_from (at + 1) cs (exprs_of os) t
 
-    go : Quiet (run_stmts w more) → (d : Bool) → needs_slot c ≡ d → Quiet (run_stmts w (cast_stmts d slot (cast_expr c o.expr) ++ more))
+    go : CallsNothing (run_stmts w more) → (d : Bool) → needs_slot c ≡ d → CallsNothing (run_stmts w (cast_stmts d slot (cast_expr c o.expr) ++ more))
     go behind false is = behind
     go behind true is =
         let two = and_parts (is_operand o.expr) (are_operands os) ok in
         let plain : cast_expr c o.expr ≡ o.expr = ap (λ k. cast_expr k o.expr) (slot_is c is) in
-        subst (λ e. Quiet (run_stmts w (stmt.LetSlot slot ∷ stmt.WriteSlot slot e ∷ more))) (sym plain)
-        (quiet_then (run_stmt w (stmt.LetSlot slot)) (λ u. run_stmts w (stmt.WriteSlot slot o.expr ∷ more)) (subst Quiet (sym (run-slot w slot)) (quiet_bind slot empty_slot))
+        subst (λ e. CallsNothing (run_stmts w (stmt.LetSlot slot ∷ stmt.WriteSlot slot e ∷ more))) (sym plain)
+        (quiet_then (run_stmt w (stmt.LetSlot slot)) (λ u. run_stmts w (stmt.WriteSlot slot o.expr ∷ more)) (subst CallsNothing (sym (run-slot w slot)) (quiet_bind slot empty_slot))
         (λ u. quiet_then (run_stmt w (stmt.WriteSlot slot o.expr)) (λ u. run_stmts w more)
-        (subst Quiet (sym (run-write w slot o.expr)) (quiet_then (eval w o.expr) (write_slot (stuck w) slot) (quiet_operand w o.expr two.0) (λ v. quiet_write (stuck w) slot v))) (λ u. behind)))
+        (subst CallsNothing (sym (run-write w slot o.expr)) (quiet_then (eval w o.expr) (write_slot (stuck w) slot) (quiet_operand w o.expr two.0) (λ v. quiet_write (stuck w) slot v))) (λ u. behind)))
 
 -- 6. The row
 

@@ -1,6 +1,6 @@
 -- The rows of enums: the number of a case, and the case of a word.
 use mathlib.Core.Logic.{inl, inr}
-use Rattle.std.proofs.Common.{rules, ◌≡◌, ◌++◌, ℕ, ℤ, pos, Bool, true, false, cond, ◌&&◌, nat_lt, if◌then◌else◌, List, [], ◌∷◌, length, reverse, ◌%◌, ◌^◌, Option, None, Some, is_some, refl, sym, ap, ap₂, ◌∙◌, subst, arith}
+use Rattle.std.proofs.Common.{rules, ◌≡◌, ◌++◌, ℕ, ℤ, pos, Bool, true, false, cond, nat_lt, if◌then◌else◌, List, [], ◌∷◌, length, reverse, ◌%◌, ◌^◌, Option, None, Some, is_some, refl, sym, ap, ap₂, ◌∙◌, subst, arith}
 use Rattle.std.specs.Prelude.{option_and_then, Ok, Err, codes}
 use Rattle.std.specs.Int.{w32, cast_signed}
 use Rattle.std.specs.Option.{option_map}
@@ -38,18 +38,20 @@ use Rattle.wrapper_meaning.specs.Value.{Case, case_number}
 use Rattle.wrapper_values.specs.declared.state.State.{State}
 use Rattle.wrapper_values.specs.declared.state.Val.{Val}
 use Rattle.wrapper_values.specs.declared.state.Val.TheVariants as val
-use Rattle.wrapper_values.specs.Act.{Act, all}
+use Rattle.wrapper_values.specs.Act.{Act}
 use Rattle.wrapper_values.specs.Effect.{cast_integer, is_of_kind, is_unit_level, low, low_i32, num_of}
 use Rattle.wrapper_values.specs.Enums.{case_of, case_of_level, case_of_number, enum_in, enum_lift_of, held_in, is_enum, is_without_payload, word_of_case}
 use Rattle.wrapper_values.specs.Fields.{root_name, type_named}
 use Rattle.wrapper_values.specs.Flags.{repr_bits}
 use Rattle.wrapper_values.specs.Owning.{owned_by}
-use Rattle.wrapper_values.specs.Setting.{Setting, stuck}
-use Rattle.wrapper_values.specs.Variants.{full_case, number_at_root}
-use Rattle.wrapper_run.specs.Run.{call, call_callee, call_member, callee, eval, lift_act, lift_case, lift_name, make_case, member_of, runtime_module_name}
+use Rattle.wrapper_values.specs.Setting.{Setting}
+use Rattle.wrapper_run.specs.Run.{call_callee, call_member, callee, eval, lift_act, lift_case, lift_name, member_of, runtime_module_name}
 use Rattle.wrapper_run.proofs.EnumSteps.{callee-lift, member_lifted}
 use Rattle.wrapper_run.proofs.NumberLemmas.{num_of-number}
-use Rattle.wrapper_run.proofs.StepLemmas.{Quiet, call_gives, eval-call, quiet_lift_act, quiet_one, quiet_or_stop, quiet_then}
+use Rattle.wrapper_run.proofs.StepLemmas.{call_gives}
+use Rattle.wrapper_run.specs.Inward.{CallsNothing, is_no_import}
+use Rattle.wrapper_run.proofs.QuietSteps.{quiet_call, quiet_cast}
+use Rattle.wrapper_run.proofs.QuietActs.{quiet_one}
 use Rattle.abi_bindgen.specs.declared.instruction.Instruction.TheVariants.{EnumLift, EnumLower}
 use Rattle.abi_bindgen.specs.Account.{Peer, failing, stay}
 use Rattle.abi_bindgen.specs.Cases.{LiftsEnum, LowersEnum, case_word, reading_tag, tag_of}
@@ -79,7 +81,7 @@ use Rattle.func_gen.proofs.Forming.{form_alone, form_let}
 use Rattle.func_gen.proofs.LiftedRows.{cast_given, low_u32, low_u8, says_one}
 use Rattle.func_gen.proofs.LowBits.{same_low}
 use Rattle.func_gen.proofs.Moving.{cast_owns}
-use Rattle.func_gen.proofs.Quiet.{quiet_cast_of, quiet_operand}
+use Rattle.func_gen.proofs.Quiet.{quiet_operand}
 use Rattle.func_gen.proofs.Rows.{Agrees, let_adds, lets_served, none_adds, swaps}
 use Rattle.wrapper_meaning.proofs.Lists.{some_or, some_same}
 use Rattle.wrapper_meaning.proofs.RustValues.{out-case}
@@ -164,28 +166,9 @@ calls_enum : (w : Setting) (name : Bytes) (vs : List Val) → is_enum w.items na
 unfolding lift_name
 calls_enum w name vs h = member_lifted w name vs h
 
-quiet_case : (w : Setting) (name : Bytes) (vs : List Val) → Quiet (lift_case w name vs)
-quiet_case w name [] = record { quiet = λ s. refl }
-quiet_case w name (v ∷ []) = quiet_lift_act w (enum_lift_of w.items name v)
-quiet_case w name (v ∷ u ∷ vs) = record { quiet = λ s. refl }
-
-quiet_made : (w : Setting) (number : Option ℕ) (vs : List Val) → Quiet (make_case w number vs)
-quiet_made w number [] = record { quiet = λ s. refl }
-quiet_made w number (v ∷ []) = quiet_or_stop (stuck w) (full_case number v)
-quiet_made w number (v ∷ u ∷ vs) = record { quiet = λ s. refl }
-
-quiet_member : (w : Setting) (ty name : Bytes) (vs : List Val) → Quiet (call_member w ty name vs)
-quiet_member w ty name vs = go (is_enum w.items ty && bytes_eq name lift_name)
-  where
-    go : (b : Bool) → Quiet (cond b (lift_case w ty vs) (make_case w (number_at_root w.items ty name) vs))
-    go true = quiet_case w ty vs
-    go false = quiet_made w (number_at_root w.items ty name) vs
-
-quiet_lifted : (w : Setting) (name : Bytes) (to : CastType) (e : Expr) → bytes_eq name runtime_module_name ≡ false → is_operand e ≡ true → Quiet (eval w (case_lifted name to e))
+quiet_lifted : (w : Setting) (name : Bytes) (to : CastType) (e : Expr) → bytes_eq name runtime_module_name ≡ false → is_operand e ≡ true → CallsNothing (eval w (case_lifted name to e))
 quiet_lifted w name to e typed ok =
-    subst Quiet (sym (eval-call w (lift_path name) (expr.Cast e to ∷ [])))
-    (quiet_then (all (eval w (expr.Cast e to) ∷ [])) (λ vs. call w (lift_path name) vs) (quiet_one (eval w (expr.Cast e to)) (quiet_cast_of w e to (quiet_operand w e ok)))
-    (λ vs. subst Quiet (sym (ap (λ k. call_callee w k vs) (calls_lift name typed))) (quiet_member w name lift_name vs)))
+    quiet_call w (lift_path name) (expr.Cast e to ∷ []) (ap is_no_import (calls_lift name typed)) (quiet_one (eval w (expr.Cast e to)) (quiet_cast w e to (quiet_operand w e ok)))
 
 low_u16 : (z : ℤ) → is_of_kind wit.U16 (low 16 z) ≡ true
 low_u16 z = grind (arith, ints)

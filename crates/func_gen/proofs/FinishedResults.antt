@@ -15,7 +15,8 @@ use Rattle.wrapper_values.specs.Locals.{usable}
 use Rattle.wrapper_values.specs.Owning.{owned, owned_by}
 use Rattle.wrapper_values.specs.Setting.{Setting}
 use Rattle.wrapper_run.specs.Run.{eval}
-use Rattle.wrapper_run.proofs.StepLemmas.{Quiet, quiet_pure, quiet_then}
+use Rattle.wrapper_run.specs.Inward.{CallsNothing}
+use Rattle.wrapper_run.proofs.QuietActs.{quiet_pure, quiet_then}
 use Rattle.abi_bindgen.specs.Blocks.{owned_datum}
 use Rattle.abi_bindgen.specs.Laws.{Data, Facts, ofs}
 use Rattle.abi_bindgen.specs.Meaning.{Datum, item, word}
@@ -97,7 +98,7 @@ results_given w b (o ∷ os) (d ∷ ds) others s len h =
 
 -- 3. No call is made
 
-pub quiet_results : (w : Setting) (os : List ExprOperand) → are_operands os ≡ true → Quiet (evaluated w os)
+pub quiet_results : (w : Setting) (os : List ExprOperand) → are_operands os ≡ true → CallsNothing (evaluated w os)
 quiet_results w [] h = quiet_pure []
 quiet_results w (o ∷ os) h =
     let two = and_parts (is_operand o.expr) (are_operands os) h in

@@ -19,7 +19,8 @@ use Rattle.wrapper_values.specs.Act.{Act, and_then}
 use Rattle.wrapper_values.specs.Owning.{owned_in}
 use Rattle.wrapper_values.specs.Setting.{Setting}
 use Rattle.wrapper_run.specs.Run.{run_stmts}
-use Rattle.wrapper_run.proofs.StepLemmas.{Quiet, calls_at}
+use Rattle.wrapper_run.specs.Inward.{CallsNothing}
+use Rattle.wrapper_run.proofs.QuietActs.{calls_at}
 use Rattle.abi_bindgen.specs.Account.{Account, Done, Peer, account_in}
 use Rattle.abi_bindgen.specs.Area.{HoldsRecord}
 use Rattle.abi_bindgen.specs.Blocks.{Finishes, Gives, Lasts, StopsAlike, owned_datum}
@@ -72,7 +73,7 @@ ended_calls b s (machine.Stopped (stop.Trap k) t) = refl
 ended_calls b s (machine.Stopped (stop.Stuck n) t) = refl
 ended_calls b s (machine.Stopped stop.BadChoice t) = refl
 
-calls_then : (o : machine.Outcome (Unit {0})) (next : Act (List Val)) → Quiet next → calls_at (and_then o (λ u. next)) ≡ calls_at o
+calls_then : (o : machine.Outcome (Unit {0})) (next : Act (List Val)) → CallsNothing next → calls_at (and_then o (λ u. next)) ≡ calls_at o
 calls_then (machine.Done u t) next q = q.quiet t
 calls_then (machine.Stopped e t) next q = refl
 

@@ -15,14 +15,14 @@ use Rattle.wrapper_values.specs.declared.state.State.{State}
 use Rattle.wrapper_values.specs.declared.state.Val.{Val}
 use Rattle.wrapper_values.specs.declared.state.Val.TheVariants as val
 use Rattle.wrapper_values.specs.Act as machine
-use Rattle.wrapper_values.specs.Act.{and_then}
 use Rattle.wrapper_values.specs.Locals.{bind, usable}
 use Rattle.wrapper_values.specs.Owning.{owned}
 use Rattle.wrapper_values.specs.Setting.{Setting}
 use Rattle.wrapper_run.specs.Run.{eval, run_stmt, run_stmts}
 use Rattle.wrapper_run.proofs.GiveSteps.{let_runs}
-use Rattle.wrapper_run.proofs.StepLemmas.{Quiet, quiet_bind, quiet_pure, quiet_then}
 use Rattle.wrapper_run.proofs.StmtSteps.{run-let}
+use Rattle.wrapper_run.specs.Inward.{CallsNothing}
+use Rattle.wrapper_run.proofs.QuietActs.{quiet_bind, quiet_pure, quiet_then}
 use Rattle.abi_bindgen.specs.declared.instruction.Instruction.TheVariants.{Flush}
 use Rattle.abi_bindgen.specs.Account.{Account}
 use Rattle.abi_bindgen.specs.Calls.{Renames}
@@ -139,12 +139,12 @@ renamed w b (n ∷ ns) (o ∷ os) (d ∷ ds) others s free many len h =
       areas = λ k a z is. later.areas k a z (bound_under one.then n one.given (one.holds.within n free.0) k (val.Area a z) (one.areas k a z is));
     }
 
-quiet_lets : (w : Setting) (names : List Bytes) (os : List ExprOperand) → are_operands os ≡ true → Quiet (run_stmts w (lets_of names (exprs_of os)))
+quiet_lets : (w : Setting) (names : List Bytes) (os : List ExprOperand) → are_operands os ≡ true → CallsNothing (run_stmts w (lets_of names (exprs_of os)))
 quiet_lets w [] os h = quiet_pure tt
 quiet_lets w (n ∷ ns) [] h = quiet_pure tt
 quiet_lets w (n ∷ ns) (o ∷ os) h =
     let two = and_parts (is_operand o.expr) (are_operands os) h in
-    quiet_then (run_stmt w (stmt.Let n o.expr)) (λ u. run_stmts w (lets_of ns (exprs_of os))) (subst Quiet (sym (run-let w n o.expr)) (quiet_then (eval w o.expr) (bind n) (quiet_operand w o.expr two.0) (λ v. quiet_bind n v))) (λ u. quiet_lets w ns os two.1)
+    quiet_then (run_stmt w (stmt.Let n o.expr)) (λ u. run_stmts w (lets_of ns (exprs_of os))) (subst CallsNothing (sym (run-let w n o.expr)) (quiet_then (eval w o.expr) (bind n) (quiet_operand w o.expr two.0) (λ v. quiet_bind n v))) (λ u. quiet_lets w ns os two.1)
 
 -- 3. The row
 

@@ -8,7 +8,6 @@ use Rattle.wit_model.specs.declared.size.ArchitectureSize.{ArchitectureSize}
 use Rattle.wit_model.specs.declared.types.TypeDef.{TypeDef}
 use Rattle.rust_tree.specs.declared.expr.Expr.{Expr}
 use Rattle.rust_tree.specs.declared.expr.Expr.TheVariants as expr
-use Rattle.rust_tree.specs.declared.runtime_item.RuntimeItem.{RuntimeItem}
 use Rattle.rust_tree.specs.declared.runtime_item.RuntimeItem.TheVariants.{CabiDealloc}
 use Rattle.rust_tree.specs.declared.stmt.Stmt.TheVariants as stmt
 use Rattle.rust_tree.specs.Runtime.{item_name}
@@ -20,10 +19,9 @@ use Rattle.wrapper_data.specs.declared.run.TrapKind.TheVariants as trap
 use Rattle.wrapper_data.specs.declared.value.RustValue.TheVariants as value
 use Rattle.wrapper_data.specs.declared.word.Word.TheVariants as core
 use Rattle.wrapper_values.specs.declared.state.State.{State}
-use Rattle.wrapper_values.specs.declared.state.Val.{Val}
 use Rattle.wrapper_values.specs.declared.state.Val.TheVariants as val
 use Rattle.wrapper_values.specs.Act as machine
-use Rattle.wrapper_values.specs.Act.{Act, ◌>>=◌, all, and_then, or_stop, pure, stop}
+use Rattle.wrapper_values.specs.Act.{and_then, or_stop, pure, stop}
 use Rattle.wrapper_values.specs.Owning.{is_taken}
 use Rattle.wrapper_values.specs.Setting.{Setting, failed, stuck}
 use Rattle.wrapper_run.specs.Blocks.{dealloc, drop_value, free_all, free_bytes, free_untaken}
@@ -32,8 +30,11 @@ use Rattle.wrapper_run.specs.Run.{apply, call, call_callee, call_runtime, eval, 
 use Rattle.wrapper_run.proofs.OwningLemmas.{owned-unit}
 use Rattle.wrapper_run.proofs.QuietSteps.{quiet_expr}
 use Rattle.wrapper_run.proofs.StmtSteps.{runs-expr}
-use Rattle.wrapper_run.proofs.StepLemmas.{Quiet, calls_at, call_gives, eval-call, quiet_pure, quiet_then, quiet_dealloc_words}
+use Rattle.wrapper_run.proofs.StepLemmas.{call_gives}
 use Rattle.wrapper_run.proofs.FreeSteps.{eval-size, one_byte}
+use Rattle.wrapper_run.specs.Inward.{CallsNothing, is_no_import}
+use Rattle.wrapper_run.proofs.QuietSteps.{quiet_call}
+use Rattle.wrapper_run.proofs.QuietActs.{quiet_cons, quiet_one, quiet_pure}
 use Rattle.abi_bindgen.specs.declared.instruction.Instruction.TheVariants.{GuestDeallocate, GuestDeallocateString}
 use Rattle.abi_bindgen.specs.Account.{failing}
 use Rattle.abi_bindgen.specs.Instructions.{Emits}
@@ -61,41 +62,14 @@ use Rattle.func_gen.proofs.Writing.{Writes, one_adds, with_heap, writes}
 size_is : (w : Setting) (size : ArchitectureSize) → is_length size ≡ true → eval w (expr.Size size) ≡ pure (val.Word (core.Length (bytes_at size 4)))
 size_is w size h = eval-size w size ∙ ap (λ b. or_stop (stuck w) (cond b (Some (val.Word (core.Length (bytes_at size 4)))) None)) h
 
-quiet_size : (w : Setting) (size : ArchitectureSize) → is_length size ≡ true → Quiet (eval w (expr.Size size))
-quiet_size w size h = subst Quiet (sym (size_is w size h)) (quiet_pure (val.Word (core.Length (bytes_at size 4))))
+quiet_size : (w : Setting) (size : ArchitectureSize) → is_length size ≡ true → CallsNothing (eval w (expr.Size size))
+quiet_size w size h = subst CallsNothing (sym (size_is w size h)) (quiet_pure (val.Word (core.Length (bytes_at size 4))))
 
--- no other function of `_rt` has three arguments
-quiet_three : (w : Setting) (i : Option RuntimeItem) (x y z : Val) → Quiet (apply w i (x ∷ y ∷ z ∷ []))
-quiet_three w (Some CabiDealloc) x y z = quiet_dealloc_words w (x ∷ y ∷ z ∷ [])
-quiet_three w None x y z = record { quiet = λ s. refl }
-quiet_three w (Some i) x y z = record { quiet = λ s. refl }
-
-in_turn : (a b c : Act Val) (f : List Val → Act Val) (s : State) → and_then (all (a ∷ b ∷ c ∷ []) s) f ≡ and_then (a s) (λ x. b >>= (λ y. c >>= (λ z. f (x ∷ y ∷ z ∷ []))))
-in_turn a b c f s = first (a s)
-  where
-    third : (x y : Val) (o : machine.Outcome Val) → and_then (and_then (and_then (and_then o (λ z. pure [] >>= (λ zs. pure (z ∷ zs)))) (λ ys. pure (y ∷ ys))) (λ xs. pure (x ∷ xs))) f ≡ and_then o (λ z. f (x ∷ y ∷ z ∷ []))
-    third x y (machine.Done z t) = refl
-    third x y (machine.Stopped e t) = refl
-
-    second : (x : Val) (o : machine.Outcome Val)
-        → and_then (and_then (and_then o (λ y. all (c ∷ []) >>= (λ ys. pure (y ∷ ys)))) (λ xs. pure (x ∷ xs))) f ≡ and_then o (λ y. c >>= (λ z. f (x ∷ y ∷ z ∷ [])))
-    second x (machine.Done y t) = third x y (c t)
-    second x (machine.Stopped e t) = refl
-
-    first : (o : machine.Outcome Val) → and_then (and_then o (λ x. all (b ∷ c ∷ []) >>= (λ xs. pure (x ∷ xs)))) f ≡ and_then o (λ x. b >>= (λ y. c >>= (λ z. f (x ∷ y ∷ z ∷ []))))
-    first (machine.Done x t) = second x (b t)
-    first (machine.Stopped e t) = refl
-
-quiet_call : (w : Setting) (e f : Expr) (align : ArchitectureSize) → is_length align ≡ true → Quiet (eval w e) → Quiet (eval w f) → Quiet (eval w (bytes_freed e f align))
-unfolding call_runtime
-quiet_call w e f align aligned q r =
-    let path = runtime_path CabiDealloc in
-    let d = eval w (expr.Size align) in
-    let each = λ (x y z : Val). subst Quiet (sym (ap (λ k. call_callee w k (x ∷ y ∷ z ∷ [])) (calls_runtime CabiDealloc))) (quiet_three w (runtime_item_named w.items (item_name CabiDealloc)) x y z) in
-    let turned = quiet_then (eval w e) (λ x. eval w f >>= (λ y. d >>= (λ z. call w path (x ∷ y ∷ z ∷ [])))) q
-    (λ x. quiet_then (eval w f) (λ y. d >>= (λ z. call w path (x ∷ y ∷ z ∷ []))) r (λ y. quiet_then d (λ z. call w path (x ∷ y ∷ z ∷ [])) (quiet_size w align aligned) (λ z. each x y z))) in
-    subst Quiet (sym (eval-call w path (e ∷ f ∷ expr.Size align ∷ [])))
-    (record { quiet = λ s. ap calls_at (in_turn (eval w e) (eval w f) d (λ vs. call w path vs) s) ∙ turned.quiet s })
+quiet_freed : (w : Setting) (e f : Expr) (align : ArchitectureSize) → is_length align ≡ true → CallsNothing (eval w e) → CallsNothing (eval w f) → CallsNothing (eval w (bytes_freed e f align))
+quiet_freed w e f align aligned q r =
+    let size = expr.Size align in
+    quiet_call w (runtime_path CabiDealloc) (e ∷ f ∷ size ∷ []) (ap is_no_import (calls_runtime CabiDealloc))
+    (quiet_cons (eval w e) (eval w f ∷ eval w size ∷ []) q (quiet_cons (eval w f) (eval w size ∷ []) r (quiet_one (eval w size) (quiet_size w align aligned))))
 
 -- 2. What it does
 
@@ -173,8 +147,8 @@ module _ (w : Setting) (s : State) where
 -- 5. The rows
 
 module _ (types : List TypeDef) (old new : FunctionBindgen) (e : Expr) (ok : is_operand e ≡ true) (scope : new.scope ≡ old.scope) where
-  quiet_free : (f : Expr) (align : ArchitectureSize) → is_length align ≡ true → ((w : Setting) → Quiet (eval w f)) → (w : Setting) → Quiet (run_stmts w (stmt.Expr (bytes_freed e f align) ∷ []))
-  quiet_free f align aligned quiet w = quiet_expr w (bytes_freed e f align) [] (quiet_call w e f align aligned (quiet_operand w e ok) (quiet w)) (quiet_pure tt)
+  quiet_free : (f : Expr) (align : ArchitectureSize) → is_length align ≡ true → ((w : Setting) → CallsNothing (eval w f)) → (w : Setting) → CallsNothing (run_stmts w (stmt.Expr (bytes_freed e f align) ∷ []))
+  quiet_free f align aligned quiet w = quiet_expr w (bytes_freed e f align) [] (quiet_freed w e f align aligned (quiet_operand w e ok) (quiet w)) (quiet_pure tt)
 
   pub free_row : (f : Expr) → is_operand f ≡ true → Appends old new (stmt.Expr (text_freed e f) ∷ []) (CabiDealloc ∷ []) → Emits func_meaning types GuestDeallocateString (operand_of e ∷ operand_of f ∷ []) [] old new
   free_row f ok_f a =

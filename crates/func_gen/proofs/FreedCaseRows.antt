@@ -14,7 +14,8 @@ use Rattle.wrapper_run.specs.Blocks.{in_scope}
 use Rattle.wrapper_run.specs.Inward.{is_inward}
 use Rattle.wrapper_run.specs.Results.{run_results}
 use Rattle.wrapper_run.specs.Run.{run_stmts}
-use Rattle.wrapper_run.proofs.AskLemmas.{asks_pure}
+use Rattle.wrapper_run.proofs.InwardCalls.{body_quiet}
+use Rattle.wrapper_run.proofs.QuietActs.{quiet_pure}
 use Rattle.abi_bindgen.specs.Account.{Follows, Peer}
 use Rattle.abi_bindgen.specs.Arms.{Armed, arm, gives_nothing}
 use Rattle.abi_bindgen.specs.Blocks.{owned_datum}
@@ -30,7 +31,7 @@ use Rattle.func_gen.specs.Scope.{is_used}
 use Rattle.func_gen.proofs.ArmFollows.{arm_follows}
 use Rattle.func_gen.proofs.ArmResults.{gives-code}
 use Rattle.func_gen.proofs.Lasting.{SameArea, area_same, lasts}
-use Rattle.func_gen.proofs.MatchByNumber.{body_asks, body_behind}
+use Rattle.func_gen.proofs.MatchByNumber.{body_behind}
 
 module _ (old new : FunctionBindgen) (same : SameArea old new) (params : new.params ≡ old.params) (used : new.scope.used ≡ old.scope.used) where
   abbrev pub Outs : Armed func_meaning → Facts func_meaning → Type 0
@@ -77,7 +78,7 @@ module _ (old new : FunctionBindgen) (same : SameArea old new) (params : new.par
         → Follows func_meaning.account (arm func_meaning (gives_nothing func_meaning) (λ body. run_finished w p body with_nothing) i s (Some b))
         (seen s.area (and_then (in_scope set (enter >> run_results set (freed_body b)) s.machine) (bind_results set names_of.Nothing))) Reached
     free_follows enter enters =
-        arm_follows w p b names_of.Nothing s [] tt tt (run_results set (freed_body b)) (body_behind set (freed_body b) inward) (body_asks set (freed_body b) inward) machine.pure (λ vs. asks_pure vs) wraps enter
+        arm_follows w p b names_of.Nothing s [] tt tt (run_results set (freed_body b)) (body_behind set (freed_body b) inward) (body_quiet set (freed_body b) inward) machine.pure (λ vs. quiet_pure vs) wraps enter
         (enters ∙ ap (λ ls. machine.Done tt (record s.machine { locals = ls })) (sym (append-nil s.machine.locals))) (gives_nothing func_meaning) i Reached
         (λ vs ds u known fits.
         let is = no_data vs ds (ap (λ os. data_of os vs) (sym none) ∙ known) in (

@@ -43,9 +43,9 @@ use Rattle.func_gen.specs.Operand.{is_conversion, is_core_function, is_operand, 
 use Rattle.func_gen.specs.PartForms.{are_operands, exprs_of, part_name}
 use Rattle.func_gen.specs.TextForms.{forget_names, forget_path, forgotten}
 use Rattle.func_gen.proofs.InwardSteps.{arm_test, block_test, inward-call, inward-record, inward-tuple, inward-words, test-match}
+use Rattle.func_gen.proofs.OperandCalls.{calls_conversion, calls_core_function}
 use Rattle.func_gen.proofs.OperandLists.{same_operands}
 use Rattle.func_gen.proofs.OperandSteps.{cast_operand, local_operand, whole_operand}
-use Rattle.func_gen.proofs.Quiet.{calls_conversion, calls_core_function}
 
 -- 1. Paths of more than one name
 

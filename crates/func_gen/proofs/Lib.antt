@@ -73,6 +73,7 @@ pub mod NumberQuiet
 pub mod NumberRows
 pub mod NumberedArms
 pub mod Opening
+pub mod OperandCalls
 pub mod OperandLists
 pub mod OperandSteps
 pub mod PartNames

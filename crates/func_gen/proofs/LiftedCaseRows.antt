@@ -33,6 +33,7 @@ use Rattle.wrapper_run.specs.Inward.{is_inward}
 use Rattle.wrapper_run.specs.OuterLocals.{OwnNothing}
 use Rattle.wrapper_run.specs.Results.{run_results}
 use Rattle.wrapper_run.specs.Run.{eval, run_stmts}
+use Rattle.wrapper_run.proofs.InwardCalls.{body_quiet}
 use Rattle.abi_bindgen.specs.Account.{Follows, Peer}
 use Rattle.abi_bindgen.specs.Arms.{Armed, arm, gives_payload}
 use Rattle.abi_bindgen.specs.Blocks.{owned_datum}
@@ -58,9 +59,9 @@ use Rattle.func_gen.proofs.ArmFollows.{arm_follows}
 use Rattle.func_gen.proofs.ArmReach.{Unused}
 use Rattle.func_gen.proofs.CaseArms.{each_evaluated}
 use Rattle.func_gen.proofs.CaseValues.{Fills, case_made, case_owns}
-use Rattle.func_gen.proofs.CasesMade.{IsCaseOf, alone, asks_case, bare_made, case_of, full_made, makes_case, unit_made}
+use Rattle.func_gen.proofs.CasesMade.{IsCaseOf, alone, bare_made, case_of, full_made, makes_case, quiet_case, unit_made}
 use Rattle.func_gen.proofs.Lasting.{SameArea, area_same, bound_under, lasts, owns_with, with_local}
-use Rattle.func_gen.proofs.MatchByNumber.{body_asks, body_behind}
+use Rattle.func_gen.proofs.MatchByNumber.{body_behind}
 use Rattle.func_gen.proofs.PartRows.{areas_last}
 use Rattle.func_gen.proofs.Several.{add_local}
 
@@ -213,8 +214,8 @@ module _ (old new base : FunctionBindgen) (v : Bytes) (ts : Shapes) (same : Same
         → Follows func_meaning.account (arm func_meaning (gives_payload func_meaning) (λ body. run_finished w p body with_nothing) i s (Some b))
         (seen s.area (and_then (in_scope set (enter >> run_results set (lifted_body c b)) s.machine) (bind_results set (names_of.One v)))) Reached
     lift_follows extra unused plain enter enters =
-        arm_follows w p b (names_of.One v) s extra unused plain (run_results set (lifted_body c b)) (body_behind set (lifted_body c b) inward) (body_asks set (lifted_body c b) inward) (λ vs. alone (case_of set (is_unit c) (case_path c) vs))
-        (λ vs. asks_case set (is_unit c) (case_path c) i vs is) wraps enter enters (gives_payload func_meaning) i Reached
+        arm_follows w p b (names_of.One v) s extra unused plain (run_results set (lifted_body c b)) (body_behind set (lifted_body c b) inward) (body_quiet set (lifted_body c b) inward) (λ vs. alone (case_of set (is_unit c) (case_path c) vs))
+        (λ vs. quiet_case set (is_unit c) (case_path c) i vs is) wraps enter enters (gives_payload func_meaning) i Reached
         (λ vs ds u known fits.
         let x : Val = val.Value (case_value ds) in
         (x ∷ [], with_local (outside s.machine u) v x, data_made set (is_unit c) (case_path c) i is u b.results vs ds few known fits, bound_as x (outside s.machine u), arrives ds u fits))

@@ -16,7 +16,7 @@ use Rattle.wrapper_data.specs.declared.value.RustValue.{RustValue}
 use Rattle.wrapper_meaning.specs.Shape.{payloads_in, shapes}
 use Rattle.wrapper_values.specs.Setting.{Setting}
 use Rattle.wrapper_run.specs.Run.{run_stmts}
-use Rattle.wrapper_run.proofs.StepLemmas.{Quiet}
+use Rattle.wrapper_run.specs.Inward.{CallsNothing}
 use Rattle.abi_bindgen.specs.declared.instruction.Instruction.TheVariants.{GuestDeallocateVariant, OptionLift, ResultLift, VariantLift}
 use Rattle.abi_bindgen.specs.Account.{Peer}
 use Rattle.abi_bindgen.specs.Cases.{case_shapes, payload_counts, payloads_at}
@@ -74,7 +74,7 @@ module _ (types : List TypeDef) (id : TypeId) (forms : List CaseForm) (e : Expr)
   abbrev code : List Stmt
   code = stmt.Match (names_of.One v) e (number_arms 0 (lifted_bodies forms (reverse l.used)) (arm_of arm_by.AnyOther invalid_body)) ∷ []
 
-  quiet : (w : Setting) → Quiet (run_stmts w code)
+  quiet : (w : Setting) → CallsNothing (run_stmts w code)
   quiet = λ w. quiet_numbers w (names_of.One v) e (lifted_bodies forms (reverse l.used)) arm_by.AnyOther invalid_body ok tt l.inward l.inward_last
 
   used_many : length (payload_counts (payloads_at types id.0)) ≡ length forms
@@ -112,7 +112,7 @@ module _ (types : List TypeDef) (id : TypeId) (forms : List CaseForm) (c : CaseF
   abbrev code_last : List Stmt
   code_last = stmt.Match (names_of.One v) e (number_arms 0 (lifted_bodies forms l.first) (arm_of (arm_by.Name n) (last_body n (length forms) c l.last))) ∷ []
 
-  quiet_last : (w : Setting) → Quiet (run_stmts w code_last)
+  quiet_last : (w : Setting) → CallsNothing (run_stmts w code_last)
   quiet_last = λ w. quiet_numbers w (names_of.One v) e (lifted_bodies forms l.first) (arm_by.Name n) (last_body n (length forms) c l.last) ok tt l.inward l.inward_last
 
   counted : length (payload_counts (payloads_at types id.0)) ≡ suc (length forms)
@@ -138,7 +138,7 @@ module _ (types : List TypeDef) (k : ℕ) (e : Expr) (old new : FunctionBindgen)
   abbrev code_free : List Stmt
   code_free = stmt.Match names_of.Nothing e (number_arms 0 (map freed_body l.first) (arm_of arm_by.AnyOther (freed_body l.last))) ∷ []
 
-  quiet_free : (w : Setting) → Quiet (run_stmts w code_free)
+  quiet_free : (w : Setting) → CallsNothing (run_stmts w code_free)
   quiet_free = λ w. quiet_numbers w names_of.Nothing e (map freed_body l.first) arm_by.AnyOther (freed_body l.last) ok tt l.inward l.inward_last
 
   replicated : length {A = ℕ} (replicate (suc k) 0) ≡ suc k

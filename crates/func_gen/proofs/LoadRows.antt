@@ -30,7 +30,8 @@ use Rattle.wrapper_values.specs.Setting.{Setting, failed}
 use Rattle.wrapper_run.specs.Memory.{bytes_of_small, bytes_of_type, loaded, loaded_small, word_from}
 use Rattle.wrapper_run.specs.Memory as memory
 use Rattle.wrapper_run.specs.Run.{eval, load_small, load_word}
-use Rattle.wrapper_run.proofs.StepLemmas.{Quiet, quiet_or_stop, quiet_then}
+use Rattle.wrapper_run.specs.Inward.{CallsNothing}
+use Rattle.wrapper_run.proofs.QuietActs.{quiet_or_stop, quiet_then}
 use Rattle.abi_bindgen.specs.declared.instruction.Instruction.{Instruction}
 use Rattle.abi_bindgen.specs.declared.instruction.Instruction.TheVariants.{F32Load, F64Load, I32Load, I32Load16S, I32Load16U, I32Load8S, I32Load8U, I64Load, LengthLoad, PointerLoad}
 use Rattle.abi_bindgen.specs.Account.{Got, Outcome, Stuck, failing, gives as law_gives}
@@ -68,11 +69,11 @@ eval-load w e o ty = search (rules, the_lemmas)
 eval-load_small : (w : Setting) (e : Expr) (o : ArchitectureSize) (ty : SmallType) → eval w (expr.LoadSmall e o ty) ≡ (eval w e >>= load_small w o ty)
 eval-load_small w e o ty = search (rules, the_lemmas)
 
-quiet_load_word : (w : Setting) (o : ArchitectureSize) (ty : WasmType) (v : Val) → Quiet (load_word w o ty v)
+quiet_load_word : (w : Setting) (o : ArchitectureSize) (ty : WasmType) (v : Val) → CallsNothing (load_word w o ty v)
 quiet_load_word w o ty (val.Word (core.Pointer address)) = record { quiet = λ s. (quiet_or_stop (failed w trap.Pointer) (option_map val.Word (loaded ty (address + bytes_at o 4) s.heap.blocks))).quiet s }
 quiet_load_word w o ty _ = record { quiet = λ s. refl }
 
-quiet_load_small : (w : Setting) (o : ArchitectureSize) (ty : SmallType) (v : Val) → Quiet (load_small w o ty v)
+quiet_load_small : (w : Setting) (o : ArchitectureSize) (ty : SmallType) (v : Val) → CallsNothing (load_small w o ty v)
 quiet_load_small w o ty (val.Word (core.Pointer address)) = record { quiet = λ s. (quiet_or_stop (failed w trap.Pointer) (option_map val.Word (loaded_small ty (address + bytes_at o 4) s.heap.blocks))).quiet s }
 quiet_load_small w o ty _ = record { quiet = λ s. refl }
 
@@ -140,7 +141,7 @@ module _ (old new : FunctionBindgen) (n : Bytes) (e : Expr) (ok : is_operand e �
   Follows a value = (w : Setting) (f : Form) (address : ℕ) (s : State) → w.form ≡ f → Hold w.items old (of (operand_of e) (word (core.Pointer address)) ∷ []) s
       → AgreesBy Word (account_of s) (loading 2 f a (address + bytes_at o 4) (account_of s)) (eval w value s) s (λ x. word x)
 
-  module _ (a : Access) (value : Expr) (quiet : (w : Setting) → Quiet (eval w value)) (adds : Appends old new (stmt.Let n value ∷ []) []) where
+  module _ (a : Access) (value : Expr) (quiet : (w : Setting) → CallsNothing (eval w value)) (adds : Appends old new (stmt.Let n value ∷ []) []) where
     pub load_adds : Adds func_meaning old new
     load_adds = let_adds old new n value [] adds fresh quiet
 
@@ -149,11 +150,11 @@ module _ (old new : FunctionBindgen) (n : Bytes) (e : Expr) (ok : is_operand e �
         lets_by old new n value [] adds fresh quiet Word (of (operand_of e) (word (core.Pointer address)) ∷ []) (λ p. loading 2 p.form a (address + bytes_at o 4)) (λ x. word x)
         (λ x fs. fs ≡ of (operand_of (expr.Local n)) (word x) ∷ []) (λ x. refl) (λ w p s found h. follows (setting_for w p) p.form address s refl h)
 
-  quiet_whole : (ty : WasmType) (w : Setting) → Quiet (eval w (expr.Load e o ty))
-  quiet_whole ty w = subst Quiet (sym (eval-load w e o ty)) (quiet_then (eval w e) (load_word w o ty) (quiet_operand w e ok) (quiet_load_word w o ty))
+  quiet_whole : (ty : WasmType) (w : Setting) → CallsNothing (eval w (expr.Load e o ty))
+  quiet_whole ty w = subst CallsNothing (sym (eval-load w e o ty)) (quiet_then (eval w e) (load_word w o ty) (quiet_operand w e ok) (quiet_load_word w o ty))
 
-  quiet_small : (ty : SmallType) (w : Setting) → Quiet (eval w (expr.LoadSmall e o ty))
-  quiet_small ty w = subst Quiet (sym (eval-load_small w e o ty)) (quiet_then (eval w e) (load_small w o ty) (quiet_operand w e ok) (quiet_load_small w o ty))
+  quiet_small : (ty : SmallType) (w : Setting) → CallsNothing (eval w (expr.LoadSmall e o ty))
+  quiet_small ty w = subst CallsNothing (sym (eval-load_small w e o ty)) (quiet_then (eval w e) (load_small w o ty) (quiet_operand w e ok) (quiet_load_small w o ty))
 
   whole_follows : (ty : WasmType) (a : Access) → 2 ^ a.grain ≡ bytes_of_type ty → Reads a (bytes_of_type ty) (word_from ty) → Follows a (expr.Load e o ty)
   whole_follows ty a size tie w f address s same h =

@@ -1,5 +1,5 @@
 -- A match by numbers runs the arm that the laws choose for a word.
-use Rattle.std.proofs.Common.{◌≡◌, ◌<◌, ◌≤◌, ℕ, zero, suc, ℤ, pos, negsuc, Bool, true, false, cond, nat_lt, List, [], ◌∷◌, length, map, Option, None, Some, refl, sym, ap, ◌∙◌, subst, arith}
+use Rattle.std.proofs.Common.{◌≡◌, ◌<◌, ◌≤◌, ℕ, zero, suc, ℤ, pos, negsuc, Bool, true, false, cond, nat_lt, List, [], ◌∷◌, length, map, Some, refl, sym, ap, ◌∙◌, subst, arith}
 use Rattle.std.specs.Prelude.{slice_get}
 use Rattle.std.specs.List.{list_all}
 use Rattle.std.proofs.lemmas.Bool.{and_parts, lt-ltb, ltb-false, ltb-true}
@@ -15,19 +15,18 @@ use Rattle.wrapper_data.specs.declared.word.Word.TheVariants as core
 use Rattle.wrapper_values.specs.declared.state.Val.{Val}
 use Rattle.wrapper_values.specs.declared.state.Val.TheVariants as val
 use Rattle.wrapper_values.specs.Act as machine
-use Rattle.wrapper_values.specs.Act.{◌>>◌, and_then}
-use Rattle.wrapper_values.specs.Matches.{bind_results, enter_arm, left_out, takes}
-use Rattle.wrapper_values.specs.Owning.{owned}
-use Rattle.wrapper_values.specs.Setting.{Setting, stuck}
-use Rattle.wrapper_run.specs.Arms.{ArmAct, run_arm, run_arm_or, run_arms}
+use Rattle.wrapper_values.specs.Act.{and_then}
+use Rattle.wrapper_values.specs.Matches.{bind_results, takes}
+use Rattle.wrapper_values.specs.Setting.{Setting}
+use Rattle.wrapper_run.specs.Arms.{ArmAct, run_arm, run_arms}
 use Rattle.wrapper_run.specs.Blocks.{in_scope}
-use Rattle.wrapper_run.specs.Inward.{AsksNothing, is_inward}
+use Rattle.wrapper_run.specs.Inward.{is_inward}
 use Rattle.wrapper_run.specs.OuterLocals.{RunsBehind}
 use Rattle.wrapper_run.specs.Results.{run_results}
 use Rattle.wrapper_run.specs.Run.{arm_act}
-use Rattle.wrapper_run.proofs.AskLemmas.{asks_bind, asks_pure, asks_scope, asks_stop, asks_then, asks_within}
 use Rattle.wrapper_run.proofs.InwardWalk.{walks_given}
 use Rattle.wrapper_run.proofs.OuterLemmas.{behind_within}
+use Rattle.wrapper_run.proofs.InwardCalls.{AreQuiet, arms_quiet, body_quiet, results_quiet}
 use Rattle.abi_bindgen.specs.Account.{Account, Follows, Got, gives, Outcome, Peer, account_in, then_do}
 use Rattle.abi_bindgen.specs.Arms.{Armed, arm, choosing, other_case}
 use Rattle.abi_bindgen.specs.Laws.{Data}
@@ -36,15 +35,12 @@ use Rattle.abi_bindgen.specs.Turns.{Went}
 use Rattle.func_gen.specs.declared.function_bindgen.FinishedBlock.{FinishedBlock}
 use Rattle.func_gen.specs.LiftedCases.{number_arms}
 use Rattle.func_gen.specs.Meaning.{File, FuncState, account_of, call_of, func_meaning, run_finished, seen, setting_for}
-use Rattle.func_gen.proofs.ArmFollows.{asks_results, calls_behind, calls_kept}
+use Rattle.func_gen.proofs.ArmFollows.{calls_behind}
 use Rattle.func_gen.proofs.ArmResults.{arm-made}
 use Rattle.func_gen.proofs.NumberedArms.{IsNoNumber, none_behind, none_negative, numbered, serves_number, serves_other}
 use Rattle.func_gen.proofs.Steps.{seen_calls}
 
 -- 1. Code that is inward
-
-pub body_asks : (w : Setting) (b : Block) → is_inward b ≡ true → AsksNothing (run_results w b)
-body_asks w = walks_given w (λ A act. AsksNothing act) (asks_within w)
 
 pub body_behind : (w : Setting) (b : Block) → is_inward b ≡ true → RunsBehind (run_results w b)
 body_behind w = walks_given w (λ A act. RunsBehind act) (behind_within w)
@@ -64,35 +60,10 @@ rest_taken w (arm_by.Case path) v h = absurd h
 rest_taken w (arm_by.Payload path name) v h = absurd h
 rest_taken w (arm_by.LeftOut path) v h = absurd h
 
-asks_left : (w : Setting) (os : List ℕ) → AsksNothing (left_out w os)
-asks_left w [] = asks_pure tt
-asks_left w (a ∷ os) = asks_stop (stuck w)
-
-asks_enter : (w : Setting) (p : ArmPattern) (v : Val) → TakesRest p → AsksNothing (enter_arm w p v)
-asks_enter w (arm_by.Name name) v h = asks_bind name v
-asks_enter w arm_by.AnyOther v h = asks_left w (owned v)
-asks_enter w (arm_by.Number n) v h = absurd h
-asks_enter w (arm_by.Case path) v h = absurd h
-asks_enter w (arm_by.Payload path name) v h = absurd h
-asks_enter w (arm_by.LeftOut path) v h = absurd h
-
-module _ (w : Setting) (p : ArmPattern) (last : Block) (rest : TakesRest p) (inward : is_inward last ≡ true) where
-  asks_last : (v : Val) → AsksNothing (run_arm w v (p, run_results w last))
-  asks_last v = asks_scope w (enter_arm w p v >> run_results w last) (asks_then (enter_arm w p v) (λ _. run_results w last) (asks_enter w p v rest) (λ _. body_asks w last inward))
-
-  asks_or : (o : Option Bool) (one others : machine.Act (List Val)) → AsksNothing one → AsksNothing others → AsksNothing (run_arm_or w o one others)
-  asks_or None one others h k = asks_stop (stuck w)
-  asks_or (Some true) one others h k = h
-  asks_or (Some false) one others h k = k
-
-  -- the arms ask nothing
-  pub asks_arms : (k : ℕ) (bodies : List Block) (v : Val) → list_all is_inward bodies ≡ true → AsksNothing (run_arms w v (numbered k (map (run_results w) bodies) (p, run_results w last)))
-  asks_arms k [] v h = asks_or (takes w.items p v) (run_arm w v (p, run_results w last)) (machine.stop (stuck w)) (asks_last v) (asks_stop (stuck w))
-  asks_arms k (b ∷ bodies) v h =
-      let two = and_parts (is_inward b) (list_all is_inward bodies) h in
-      asks_or (takes w.items (arm_by.Number k) v) (run_arm w v (arm_by.Number k, run_results w b)) (run_arms w v (numbered (suc k) (map (run_results w) bodies) (p, run_results w last)))
-      (asks_scope w (enter_arm w (arm_by.Number k) v >> run_results w b) (asks_then (enter_arm w (arm_by.Number k) v) (λ _. run_results w b) (asks_pure tt) (λ _. body_asks w b two.0)))
-      (asks_arms (suc k) bodies v two.1)
+-- the arms make no call
+pub quiet_arms : (w : Setting) (p : ArmPattern) (last : Block) → is_inward last ≡ true → (k : ℕ) (bodies : List Block) → list_all is_inward bodies ≡ true → AreQuiet (numbered k (map (run_results w) bodies) (p, run_results w last))
+quiet_arms w p last inward k [] h = (body_quiet w last inward, tt)
+quiet_arms w p last inward k (b ∷ bodies) h = let two = and_parts (is_inward b) (list_all is_inward bodies) h in (body_quiet w b two.0, quiet_arms w p last inward (suc k) bodies two.1)
 
 -- the arms of a tree are these
 pub arms_are : (w : Setting) (k : ℕ) (bodies : List Block) (other : Arm) → map (arm_act w) (number_arms k bodies other) ≡ numbered k (map (run_results w) bodies) (arm_act w other)
@@ -138,7 +109,7 @@ module _ (w : File) (p : Peer RustValue) (s : FuncState) (names : MatchNames) (s
     no_word : (x : Word) → (account_in func_meaning.account (seen s.area (and_then (act_of (val.Word x) s.machine) (bind_results set names)))).calls ≡ acc.calls
     no_word x =
         seen_calls s.area (and_then (act_of (val.Word x) s.machine) (bind_results set names))
-        ∙ ap (map call_of) (calls_behind (act_of (val.Word x) s.machine) (bind_results set names) s.machine (calls_kept (act_of (val.Word x)) s.machine (asks_arms set other last rest inward_last 0 bodies (val.Word x) inward)) (asks_results set names))
+        ∙ ap (map call_of) (calls_behind (act_of (val.Word x) s.machine) (bind_results set names) s.machine ((arms_quiet set (val.Word x) (numbered 0 (map (run_results set) bodies) (other, run_results set last)) (quiet_arms set other last inward_last 0 bodies inward)).quiet s.machine) (results_quiet set names))
 
     other_number : (z : ℤ) → IsNoNumber 0 (length bodies) z → AsLaw (chosen (choosing p.form serves n (core.I32 z) acc)) (act_of (val.Word (core.I32 z)))
     other_number z none =

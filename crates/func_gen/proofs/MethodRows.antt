@@ -46,7 +46,8 @@ use Rattle.wrapper_run.specs.Run.{run_stmts}
 use Rattle.wrapper_run.proofs.LocalLemmas.{bytes_eq-same, reads-new}
 use Rattle.wrapper_run.proofs.MethodLemmas.{answered_by, called_with, method_gives, point_of, quiet_taken, returned-unit, value_gives}
 use Rattle.wrapper_run.proofs.OwningLemmas.{ArePlain, drops_plain}
-use Rattle.wrapper_run.proofs.StepLemmas.{Quiet, calls_at, quiet_bind, quiet_drop, quiet_leave, quiet_pure, quiet_then}
+use Rattle.wrapper_run.specs.Inward.{CallsNothing}
+use Rattle.wrapper_run.proofs.QuietActs.{calls_at, quiet_bind, quiet_drop, quiet_leave, quiet_pure, quiet_then}
 use Rattle.abi_bindgen.specs.declared.bindgen.Asked.{Asked}
 use Rattle.abi_bindgen.specs.declared.instruction.Instruction.TheVariants as instruction
 use Rattle.abi_bindgen.specs.Account.{Account, Done, Follows, Got, Peer, Reply, Stops, Stuck, account_in, is_taken, value as value_reply, words}
@@ -252,7 +253,7 @@ taken_flat : (rs : List RustValue) → taken_by rs ≡ flat_map owned_by rs
 taken_flat [] = refl
 taken_flat (r ∷ rs) = ap (λ xs. owned_by r ++ xs) (taken_flat rs)
 
-quiet_keep : (w : Setting) (held : Option Bytes) (v : Val) → Quiet (keep_result w held v)
+quiet_keep : (w : Setting) (held : Option Bytes) (v : Val) → CallsNothing (keep_result w held v)
 quiet_keep w None v = quiet_drop w v
 quiet_keep w (Some n) v = quiet_bind n v
 
@@ -324,7 +325,7 @@ module _ (f : Function) (os : List ExprOperand) (held : Option Bytes) (old new :
     quiet_end : (ty : TypeExpr) (t : State) → calls_at (ending held set kept (take_value set ty t)) ≡ t.calls
     quiet_end ty t =
         let leaving : Val → machine.Act Val = λ v. leave_to set kept >> pure v in
-        let left : (v : Val) → Quiet (leaving v) = λ v. quiet_then (leave_to set kept) (λ u. pure v) (quiet_leave set kept) (λ u. quiet_pure v) in
+        let left : (v : Val) → CallsNothing (leaving v) = λ v. quiet_then (leave_to set kept) (λ u. pure v) (quiet_leave set kept) (λ u. quiet_pure v) in
         let taken = quiet_then (take_value set ty) leaving (quiet_taken set ty) left in
         (quiet_then ((take_value set ty >>= leaving) >>= keep_result set held) (λ u. pure tt) (quiet_then (take_value set ty >>= leaving) (keep_result set held) taken (quiet_keep set held)) (λ u. quiet_pure tt)).quiet t
 

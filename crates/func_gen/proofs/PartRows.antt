@@ -35,7 +35,8 @@ use Rattle.wrapper_values.specs.Whole.{rust_values, whole_of}
 use Rattle.wrapper_run.specs.Run.{eval, run_stmts}
 use Rattle.wrapper_run.proofs.GiveSteps.{let_runs}
 use Rattle.wrapper_run.proofs.PartSteps.{eval-tuple}
-use Rattle.wrapper_run.proofs.StepLemmas.{Quiet, quiet_or_stop, quiet_pure, quiet_then}
+use Rattle.wrapper_run.specs.Inward.{CallsNothing}
+use Rattle.wrapper_run.proofs.QuietActs.{quiet_or_stop, quiet_pure, quiet_then}
 use Rattle.abi_bindgen.specs.declared.bindgen.Asked.{Asked}
 use Rattle.abi_bindgen.specs.declared.instruction.Instruction.TheVariants.{TupleLift}
 use Rattle.abi_bindgen.specs.Account.{Account, Peer}
@@ -111,16 +112,16 @@ whole_stands ts v rs own h = let both = parts_stand take ts v rs own h in ((rs, 
 
 -- 2. A tuple makes no call
 
-quiet_all : (w : Setting) (os : List ExprOperand) → are_operands os ≡ true → Quiet (all (map (eval w) (exprs_of os)))
+quiet_all : (w : Setting) (os : List ExprOperand) → are_operands os ≡ true → CallsNothing (all (map (eval w) (exprs_of os)))
 quiet_all w [] h = quiet_pure []
 quiet_all w (o ∷ os) h =
     let two = and_parts (is_operand o.expr) (are_operands os) h in
     quiet_then (eval w o.expr) (λ x. all (map (eval w) (exprs_of os)) >>= (λ xs. pure (x ∷ xs))) (quiet_operand w o.expr two.0)
     (λ x. quiet_then (all (map (eval w) (exprs_of os))) (λ xs. pure (x ∷ xs)) (quiet_all w os two.1) (λ xs. quiet_pure (x ∷ xs)))
 
-quiet_tuple : (os : List ExprOperand) → are_operands os ≡ true → (w : Setting) → Quiet (eval w (expr.Tuple (exprs_of os)))
+quiet_tuple : (os : List ExprOperand) → are_operands os ≡ true → (w : Setting) → CallsNothing (eval w (expr.Tuple (exprs_of os)))
 quiet_tuple os h w =
-    subst Quiet (sym (eval-tuple w (exprs_of os))) (quiet_then (all (map (eval w) (exprs_of os))) (λ vs. or_stop (stuck w) (whole_of vs)) (quiet_all w os h) (λ vs. quiet_or_stop (stuck w) (whole_of vs)))
+    subst CallsNothing (sym (eval-tuple w (exprs_of os))) (quiet_then (all (map (eval w) (exprs_of os))) (λ vs. or_stop (stuck w) (whole_of vs)) (quiet_all w os h) (λ vs. quiet_or_stop (stuck w) (whole_of vs)))
 
 -- 3. What it gives
 

@@ -44,8 +44,9 @@ use Rattle.wrapper_values.specs.Setting.{Setting, stuck}
 use Rattle.wrapper_values.specs.Whole.{bind_parts, given_names, parts_of, parts_of_level, take_apart}
 use Rattle.wrapper_run.specs.Run.{eval, run_stmt, run_stmts}
 use Rattle.wrapper_run.proofs.PartSteps.{AsMany, part_locals, parts-whole, takes_apart}
-use Rattle.wrapper_run.proofs.StepLemmas.{Quiet, quiet_bind, quiet_or_stop, quiet_pure, quiet_then}
 use Rattle.wrapper_run.proofs.StmtSteps.{run-parts}
+use Rattle.wrapper_run.specs.Inward.{CallsNothing}
+use Rattle.wrapper_run.proofs.QuietActs.{quiet_bind, quiet_or_stop, quiet_pure, quiet_then}
 use Rattle.abi_bindgen.specs.Laws.{Adds, Stays, item_data, ofs}
 use Rattle.abi_bindgen.specs.Meaning.{Fact, item, of}
 use Rattle.abi_bindgen.specs.Parts.{PartsStand, count}
@@ -152,16 +153,16 @@ parts_many dir (more t ts) v rs own (r, others, first, rest, is, h, hs, all) = a
 
 -- 3. It makes no call
 
-quiet_parts : (w : Setting) (names : List Bytes) (rs : List RustValue) → Quiet (bind_parts w names rs)
+quiet_parts : (w : Setting) (names : List Bytes) (rs : List RustValue) → CallsNothing (bind_parts w names rs)
 quiet_parts w [] [] = quiet_pure tt
 quiet_parts w [] (r ∷ rs) = record { quiet = λ s. refl }
 quiet_parts w (n ∷ ns) [] = record { quiet = λ s. refl }
 quiet_parts w (n ∷ ns) (r ∷ rs) = quiet_then (bind n (val.Value r)) (λ u. bind_parts w ns rs) (quiet_bind n (val.Value r)) (λ u. quiet_parts w ns rs)
 
-quiet_apart : (w : Setting) (p : Pattern) (e : Expr) → Quiet (eval w e) → Quiet (run_stmts w (stmt.LetParts p e ∷ []))
+quiet_apart : (w : Setting) (p : Pattern) (e : Expr) → CallsNothing (eval w e) → CallsNothing (run_stmts w (stmt.LetParts p e ∷ []))
 quiet_apart w p e h =
     quiet_then (run_stmt w (stmt.LetParts p e)) (λ u. pure tt)
-    (subst Quiet (sym (run-parts w p e))
+    (subst CallsNothing (sym (run-parts w p e))
     (quiet_then (eval w e) (take_apart w p) h
     (λ v. quiet_then (or_stop (stuck w) (parts_of v)) (λ rs. or_stop (stuck w) (given_names w.items p) >>= (λ names. bind_parts w names rs)) (quiet_or_stop (stuck w) (parts_of v))
     (λ rs. quiet_then (or_stop (stuck w) (given_names w.items p)) (λ names. bind_parts w names rs) (quiet_or_stop (stuck w) (given_names w.items p)) (λ names. quiet_parts w names rs)))))

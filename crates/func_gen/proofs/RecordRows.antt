@@ -24,7 +24,8 @@ use Rattle.wrapper_values.specs.Setting.{Setting, stuck}
 use Rattle.wrapper_values.specs.Whole.{field_act, given_names, whole_of}
 use Rattle.wrapper_run.specs.Run.{eval}
 use Rattle.wrapper_run.proofs.PartSteps.{eval-record}
-use Rattle.wrapper_run.proofs.StepLemmas.{Quiet, quiet_or_stop, quiet_pure, quiet_then}
+use Rattle.wrapper_run.specs.Inward.{CallsNothing}
+use Rattle.wrapper_run.proofs.QuietActs.{quiet_or_stop, quiet_pure, quiet_then}
 use Rattle.abi_bindgen.specs.declared.instruction.Instruction.TheVariants.{RecordLift, RecordLower}
 use Rattle.abi_bindgen.specs.Instructions.{Emits, IsRecord, field_shapes}
 use Rattle.abi_bindgen.proofs.Records.{field_count, one_record}
@@ -61,7 +62,7 @@ module _ (w : Setting) where
   abbrev acts : List Bytes → List ExprOperand → List (Act (Bytes × Val))
   acts fields os = map field_act (map (λ (f : Bytes × Expr). (f.0, eval w f.1)) (zip fields (exprs_of os)))
 
-  quiet_fields : (fields : List Bytes) (os : List ExprOperand) → are_operands os ≡ true → Quiet (all (acts fields os))
+  quiet_fields : (fields : List Bytes) (os : List ExprOperand) → are_operands os ≡ true → CallsNothing (all (acts fields os))
   quiet_fields [] os ok = quiet_pure []
   quiet_fields (n ∷ ns) [] ok = quiet_pure []
   quiet_fields (n ∷ ns) (o ∷ os) ok =
@@ -70,10 +71,10 @@ module _ (w : Setting) where
       quiet_then a (λ x. all (acts ns os) >>= (λ xs. pure (x ∷ xs))) (quiet_then (eval w o.expr) (λ v. pure (n, v)) (quiet_operand w o.expr two.0) (λ v. quiet_pure (n, v)))
       (λ x. quiet_then (all (acts ns os)) (λ xs. pure (x ∷ xs)) (quiet_fields ns os two.1) (λ xs. quiet_pure (x ∷ xs)))
 
-  quiet_record : (site : RecordSite) (os : List ExprOperand) → are_operands os ≡ true → Quiet (eval w (expr.Record site.lifted (zip site.fields (exprs_of os))))
+  quiet_record : (site : RecordSite) (os : List ExprOperand) → are_operands os ≡ true → CallsNothing (eval w (expr.Record site.lifted (zip site.fields (exprs_of os))))
   quiet_record site os ok =
       let whole = λ (vs : List (Bytes × Val)). or_stop (stuck w) (option_and_then whole_of (arranged w.items site.lifted vs)) in
-      subst Quiet (sym (eval-record w site.lifted (zip site.fields (exprs_of os))))
+      subst CallsNothing (sym (eval-record w site.lifted (zip site.fields (exprs_of os))))
       (quiet_then (all (acts site.fields os)) whole (quiet_fields site.fields os ok) (λ vs. quiet_or_stop (stuck w) (option_and_then whole_of (arranged w.items site.lifted vs))))
 
   -- fields are computed as the operands are, each with its name

@@ -24,8 +24,9 @@ use Rattle.wrapper_run.specs.Run.{eval, run_stmts}
 use Rattle.wrapper_run.proofs.LocalLemmas.{reads-new}
 use Rattle.wrapper_run.proofs.GiveSteps.{let_runs}
 use Rattle.wrapper_run.proofs.QuietSteps.{quiet_let as quiet_stmt}
-use Rattle.wrapper_run.proofs.StepLemmas.{Quiet, quiet_pure}
 use Rattle.wrapper_run.proofs.StmtSteps.{runs-let}
+use Rattle.wrapper_run.specs.Inward.{CallsNothing}
+use Rattle.wrapper_run.proofs.QuietActs.{quiet_pure}
 use Rattle.abi_bindgen.specs.Account.{Account, Act, Done, Follows, Got, Outcome, Peer, Stopped, Stuck, account_in, stay}
 use Rattle.abi_bindgen.specs.declared.instruction.Instruction.{Instruction}
 use Rattle.abi_bindgen.specs.Instructions.{Emits}
@@ -64,7 +65,7 @@ same_area old new added items a = record { import = a.import; asked = a.asked; n
 pub unmoved : (s : State) → Beside s s
 unmoved s = record { heap = refl; taken = refl; place = refl; under = λ n v h. h }
 
-pub quiet_none : (w : Setting) → Quiet (run_stmts w [])
+pub quiet_none : (w : Setting) → CallsNothing (run_stmts w [])
 quiet_none w = quiet_pure tt
 
 -- no statement was added
@@ -106,7 +107,7 @@ AgreesBy A acc (Stuck left) q s d = left.calls ≡ acc.calls
 abbrev pub Agrees : (acc : Account RustValue) → Outcome RustValue (Got RustValue (Unit {0})) → machine.Outcome Val → State → Datum RustValue → Type 0
 Agrees acc o q s d = AgreesBy (Unit {0}) acc o q s (λ u. d)
 
-pub quiet_let : (n : Bytes) (e : Expr) → ((w : Setting) → Quiet (eval w e)) → (w : Setting) → Quiet (run_stmts w (stmt.Let n e ∷ []))
+pub quiet_let : (n : Bytes) (e : Expr) → ((w : Setting) → CallsNothing (eval w e)) → (w : Setting) → CallsNothing (run_stmts w (stmt.Let n e ∷ []))
 quiet_let n e q w = quiet_stmt w n e [] (q w) (quiet_pure tt)
 
 pub binds : (w : Setting) (n : Bytes) (e : Expr) (v : Val) (s : State) → eval w e s ≡ machine.Done v s → run_stmts w (stmt.Let n e ∷ []) s ≡ machine.Done tt (with_local s n v)
@@ -120,7 +121,7 @@ stops_early at (machine.Stopped (stop_of.Refused r) t) n e left h = h
 stops_early at (machine.Stopped (stop_of.Trap k) t) n e left h = h
 stops_early at (machine.Stopped stop_of.BadChoice t) n e left h = h
 
-module _ (old new : FunctionBindgen) (n : Bytes) (e : Expr) (items : List RuntimeItem) (a : Appends old new (stmt.Let n e ∷ []) items) (fresh : Fresh old new n) (quiet : (w : Setting) → Quiet (eval w e)) where
+module _ (old new : FunctionBindgen) (n : Bytes) (e : Expr) (items : List RuntimeItem) (a : Appends old new (stmt.Let n e ∷ []) items) (fresh : Fresh old new n) (quiet : (w : Setting) → CallsNothing (eval w e)) where
   pub let_adds : Adds func_meaning old new
   let_adds = func_adds old new (stmt.Let n e ∷ []) items a (still_free old new n fresh) (quiet_let n e quiet)
 

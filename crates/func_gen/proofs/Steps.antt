@@ -15,7 +15,8 @@ use Rattle.wrapper_values.specs.Act as machine
 use Rattle.wrapper_values.specs.Act.{Act, and_then}
 use Rattle.wrapper_values.specs.Setting.{Setting}
 use Rattle.wrapper_run.specs.Run.{run_stmt, run_stmts}
-use Rattle.wrapper_run.proofs.StepLemmas.{Quiet, calls_at}
+use Rattle.wrapper_run.specs.Inward.{CallsNothing}
+use Rattle.wrapper_run.proofs.QuietActs.{calls_at}
 use Rattle.abi_bindgen.specs.Account.{Done, Peer, Stops, account_in}
 use Rattle.abi_bindgen.specs.Area.{HoldsRecord}
 use Rattle.abi_bindgen.specs.Laws.{Adds, At, Facts, Grows}
@@ -61,7 +62,7 @@ stops_on at (machine.Stopped (stop.Trap k) t) next = refl
 stops_on at (machine.Stopped (stop.Stuck n) t) next = refl
 stops_on at (machine.Stopped stop.BadChoice t) next = refl
 
-calls_on : (o : machine.Outcome (Unit {0})) (next : Act (Unit {0})) → Quiet next → calls_at (and_then o (λ u. next)) ≡ calls_at o
+calls_on : (o : machine.Outcome (Unit {0})) (next : Act (Unit {0})) → CallsNothing next → calls_at (and_then o (λ u. next)) ≡ calls_at o
 calls_on (machine.Done u t) next q = q.quiet t
 calls_on (machine.Stopped e t) next q = refl
 
@@ -146,7 +147,7 @@ module _ (old new : FunctionBindgen) (added : List Stmt) (items : List RuntimeIt
     crosses = λ w f. refl;
   }
 
-  pub func_adds : ((n : Bytes) → is_used new.scope.used n ≡ false → is_used old.scope.used n ≡ false) → ((w : Setting) → Quiet (run_stmts w added)) → Adds func_meaning old new
+  pub func_adds : ((n : Bytes) → is_used new.scope.used n ≡ false → is_used old.scope.used n ≡ false) → ((w : Setting) → CallsNothing (run_stmts w added)) → Adds func_meaning old new
   func_adds names quiet = record {
     grows = func_grows names;
     blocks = ap reverse a.finished;

@@ -16,18 +16,19 @@ use Rattle.wrapper_data.specs.declared.word.Word.{Word}
 use Rattle.wrapper_data.specs.declared.word.Word.TheVariants as core
 use Rattle.wrapper_meaning.proofs.Lists.{some_same}
 use Rattle.wrapper_values.specs.declared.state.State.{State}
-use Rattle.wrapper_values.specs.declared.state.Val.{Val}
 use Rattle.wrapper_values.specs.declared.state.Val.TheVariants as val
 use Rattle.wrapper_values.specs.Act as machine
 use Rattle.wrapper_values.specs.Act.{and_then, or_stop, pure, ◌>>=◌}
-use Rattle.wrapper_values.specs.Effect.{integer_of, is_word_of}
+use Rattle.wrapper_values.specs.Effect.{is_word_of}
 use Rattle.wrapper_values.specs.Setting.{Setting, stuck}
-use Rattle.wrapper_run.specs.Blocks.{keep_blocks, store_small, store_word, write_small, write_word}
+use Rattle.wrapper_run.specs.Blocks.{keep_blocks, store_small, store_word, write_word}
 use Rattle.wrapper_run.specs.Memory.{block_from, bytes_of, bytes_of_small, bytes_of_type, is_inside, low_bytes, stored, stored_small, writes_from}
 use Rattle.wrapper_run.specs.Run.{eval, run_stmt, run_stmts}
 use Rattle.wrapper_run.proofs.QuietSteps.{quiet_store}
-use Rattle.wrapper_run.proofs.StepLemmas.{Quiet, quiet_pure, quiet_then}
 use Rattle.wrapper_run.proofs.StmtSteps.{run-store, run-store_small, runs-first}
+use Rattle.wrapper_run.specs.Inward.{CallsNothing}
+use Rattle.wrapper_run.proofs.Acts.{stores_number}
+use Rattle.wrapper_run.proofs.QuietActs.{quiet_acts, quiet_pure, quiet_then}
 use Rattle.abi_bindgen.specs.declared.instruction.Instruction.{Instruction}
 use Rattle.abi_bindgen.specs.declared.instruction.Instruction.TheVariants.{F32Store, F64Store, I32Store, I32Store8, I32Store16, I64Store, LengthStore, PointerStore}
 use Rattle.abi_bindgen.specs.Account.{Account, Peer}
@@ -118,7 +119,7 @@ two_given w b e f x y s h =
 
 module _ (old new : FunctionBindgen) (e at : Expr) (ok : is_operand e ≡ true) (ok_at : is_operand at ≡ true) (o : ArchitectureSize) (scope : new.scope ≡ old.scope) where
   module _ (ty : WasmType) (a : Appends old new (stmt.Store at o ty e ∷ []) []) where
-    stores_quietly : (w : Setting) → Quiet (run_stmts w (stmt.Store at o ty e ∷ []))
+    stores_quietly : (w : Setting) → CallsNothing (run_stmts w (stmt.Store at o ty e ∷ []))
     stores_quietly w = quiet_store w at o ty e [] (quiet_operand w at ok_at) (quiet_operand w e ok) (quiet_pure tt)
 
     pub store_adds : Adds func_meaning old new
@@ -144,24 +145,12 @@ module _ (old new : FunctionBindgen) (e at : Expr) (ok : is_operand e ≡ true) 
         (subst (λ z. Writes (account_of s) (by_blocks blocks (account_of s)) z s) (sym (store_run (setting_for w p) x address s h)) (finishes (setting_for w p) s blocks (keeps_word ty q x s)))))
 
   module _ (ty : SmallType) (a : Appends old new (stmt.StoreSmall at o ty e ∷ []) []) where
-    quiet_kept : (w : Setting) (blocks : Option (List Block)) → Quiet (or_stop (stuck w) blocks >>= keep_blocks)
-    quiet_kept w None = record { quiet = λ s. refl }
-    quiet_kept w (Some blocks) = record { quiet = λ s. refl }
-
-    quiet_low : (w : Setting) (q : ℕ) (z : Option ℤ) → Quiet (write_small w ty q z)
-    quiet_low w q None = record { quiet = λ s. refl }
-    quiet_low w q (Some z) = record { quiet = λ s. (quiet_kept w (stored_small ty q z s.heap.blocks)).quiet s }
-
-    quiet_store_low : (w : Setting) (v p : Val) → Quiet (store_small w o ty v p)
-    quiet_store_low w v (val.Word (core.Pointer address)) = quiet_low w (address + bytes_at o 4) (integer_of v)
-    quiet_store_low w v _ = record { quiet = λ s. refl }
-
-    low_quietly : (w : Setting) → Quiet (run_stmts w (stmt.StoreSmall at o ty e ∷ []))
+    low_quietly : (w : Setting) → CallsNothing (run_stmts w (stmt.StoreSmall at o ty e ∷ []))
     low_quietly w =
         quiet_then (run_stmt w (stmt.StoreSmall at o ty e)) (λ u. pure tt)
-        (subst Quiet (sym (run-store_small w at o ty e))
+        (subst CallsNothing (sym (run-store_small w at o ty e))
         (quiet_then (eval w e) (λ v. eval w at >>= store_small w o ty v) (quiet_operand w e ok)
-        (λ v. quiet_then (eval w at) (store_small w o ty v) (quiet_operand w at ok_at) (quiet_store_low w v))))
+        (λ v. quiet_then (eval w at) (store_small w o ty v) (quiet_operand w at ok_at) (stores_number w (λ A act. CallsNothing act) (quiet_acts w) o ty v))))
         (λ u. quiet_pure tt)
 
     pub low_adds : Adds func_meaning old new

@@ -43,10 +43,11 @@ use Rattle.wrapper_run.proofs.GiveSteps.{let_runs}
 use Rattle.wrapper_run.proofs.HeapLemmas.{begins}
 use Rattle.wrapper_run.proofs.LocalLemmas.{reads-new}
 use Rattle.wrapper_run.proofs.OwningLemmas.{buffer-text, owned-block, owned-empty}
-use Rattle.wrapper_run.proofs.QuietSteps.{quiet_let}
-use Rattle.wrapper_run.proofs.StepLemmas.{Quiet, quiet_local, quiet_pure, quiet_runtime}
+use Rattle.wrapper_run.proofs.QuietSteps.{quiet_let, quiet_local, quiet_raw, quiet_runtime}
 use Rattle.wrapper_run.proofs.StmtSteps.{runs-let}
-use Rattle.wrapper_run.proofs.TakeLemmas.{quiet_raw, raw_gives}
+use Rattle.wrapper_run.proofs.TakeLemmas.{raw_gives}
+use Rattle.wrapper_run.specs.Inward.{CallsNothing}
+use Rattle.wrapper_run.proofs.QuietActs.{quiet_pure}
 use Rattle.abi_bindgen.specs.Account.{Account, Follows, Got, Outcome, Peer, Stopped, Taken, addresses, failing, gives as lawful, found as law_found, taking, tested as law_tested}
 use Rattle.abi_bindgen.specs.declared.instruction.Instruction.TheVariants as instruction
 use Rattle.abi_bindgen.specs.Instructions.{Emits}
@@ -159,7 +160,7 @@ module _ (set : Setting) (t : ℕ) where
   unfolding bind
   tested_runs c v s e = ap (λ b. tests b v s) e
 
-  quiet_taken : (a e : Expr) → is_operand a ≡ true → is_operand e ≡ true → Quiet (run_stmts set (taken_stmts t a e))
+  quiet_taken : (a e : Expr) → is_operand a ≡ true → is_operand e ≡ true → CallsNothing (run_stmts set (taken_stmts t a e))
   quiet_taken a e ok_a ok_e =
       quiet_let set (len_name t) e (stmt.Let (bytes_name t) (expr.FromRawParts a (len_name t)) ∷ lifting ∷ []) (quiet_operand set e ok_e)
       (quiet_let set (bytes_name t) (expr.FromRawParts a (len_name t)) (lifting ∷ []) (quiet_raw set a (len_name t) (quiet_operand set a ok_a))

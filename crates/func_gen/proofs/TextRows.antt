@@ -22,7 +22,9 @@ use Rattle.wrapper_run.specs.Run.{eval, run_stmts}
 use Rattle.wrapper_run.proofs.GiveSteps.{eval-boxed}
 use Rattle.wrapper_run.proofs.OwningLemmas.{buffer-text, owned-lent}
 use Rattle.wrapper_run.proofs.QuietSteps.{quiet_boxed}
-use Rattle.wrapper_run.proofs.StepLemmas.{Quiet, eval-local, quiet_pure}
+use Rattle.wrapper_run.proofs.StepLemmas.{eval-local}
+use Rattle.wrapper_run.specs.Inward.{CallsNothing}
+use Rattle.wrapper_run.proofs.QuietActs.{quiet_pure}
 use Rattle.abi_bindgen.specs.Account.{Account, Done, Follows, Got, Outcome, Stopped, Stuck, account_in, addresses, releasing}
 use Rattle.abi_bindgen.specs.declared.instruction.Instruction.TheVariants.{StringLower}
 use Rattle.abi_bindgen.specs.Instructions.{Emits}
@@ -125,7 +127,7 @@ module _ (types : List TypeDef) (old new : FunctionBindgen) (name : Bytes) (t : 
   given_names : Three old (vec_name t) (ptr_name t) (len_name t)
   given_names = three old new (vec_name t) (ptr_name t) (len_name t) f (vec_ptr t) (vec_len t) (ptr_len t)
 
-  quiet_given : (w : Setting) → Quiet (run_stmts w (given_stmts t name))
+  quiet_given : (w : Setting) → CallsNothing (run_stmts w (given_stmts t name))
   quiet_given w = quiet_buffer w t (expr.IntoBoxedBytes name) (stmt.Expr (forgotten (vec_name t)) ∷ []) (quiet_boxed w name) (quiet_forgotten w (vec_name t))
 
   given_adds : Adds func_meaning old new

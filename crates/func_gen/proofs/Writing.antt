@@ -16,7 +16,7 @@ use Rattle.wrapper_values.specs.Setting.{Setting, stuck}
 use Rattle.wrapper_run.specs.Blocks.{keep_blocks}
 use Rattle.wrapper_run.specs.Memory.{begins_at, block_from}
 use Rattle.wrapper_run.specs.Run.{run_stmts}
-use Rattle.wrapper_run.proofs.StepLemmas.{Quiet}
+use Rattle.wrapper_run.specs.Inward.{CallsNothing}
 use Rattle.abi_bindgen.specs.Account.{Account, Act, Done, Follows, Got, Outcome, Peer, Stopped, Stuck, account_in}
 use Rattle.abi_bindgen.specs.Laws.{Adds, After, Does, Facts}
 use Rattle.func_gen.specs.declared.function_bindgen.FunctionBindgen.{FunctionBindgen}
@@ -89,7 +89,7 @@ stopped_early at (machine.Stopped (stop_of.Refused r) t) e left h = h
 stopped_early at (machine.Stopped (stop_of.Trap k) t) e left h = h
 stopped_early at (machine.Stopped stop_of.BadChoice t) e left h = h
 
-module _ (old new : FunctionBindgen) (st : Stmt) (items : List RuntimeItem) (a : Appends old new (st ∷ []) items) (scope : new.scope ≡ old.scope) (quiet : (w : Setting) → Quiet (run_stmts w (st ∷ []))) where
+module _ (old new : FunctionBindgen) (st : Stmt) (items : List RuntimeItem) (a : Appends old new (st ∷ []) items) (scope : new.scope ≡ old.scope) (quiet : (w : Setting) → CallsNothing (run_stmts w (st ∷ []))) where
   pub one_adds : Adds func_meaning old new
   one_adds = func_adds old new (st ∷ []) items a (λ n free. ap (λ (s : Scope). is_used s.used n) (sym scope) ∙ free) quiet
 

@@ -1,6 +1,5 @@
 -- An export that closes the driver's code calls once, and what its call carries.
 use Rattle.std.proofs.Common.{◌≡◌, inr, ℕ, true, if◌then◌else◌, List, [], ◌∷◌, ◌++◌, map, Option, None, refl, sym, ap, ap₂, ◌∙◌, subst}
-use Rattle.std.proofs.lemmas.Bool.{and_parts}
 use Rattle.rust_tree.specs.Ident.{rust_ident}
 use Rattle.rust_tree.specs.declared.expr.Expr.{Expr}
 use Rattle.rust_tree.specs.declared.stmt.Arm.{Arm}
@@ -32,17 +31,15 @@ use Rattle.wrapper_values.specs.Setting.{Setting, stuck}
 use Rattle.wrapper_run.specs.Entries.{ExportNames}
 use Rattle.wrapper_run.specs.ExportRun.{core_answer, keep_result, run_call, run_export_fn, run_to_words}
 use Rattle.wrapper_run.specs.Run.{give_and_leave, run_stmts, run_tail}
-use Rattle.wrapper_run.proofs.StepLemmas.{Quiet, calls_at, quiet_give, quiet_pure}
 use Rattle.wrapper_run.proofs.StmtSteps.{code-opened}
+use Rattle.wrapper_run.proofs.QuietActs.{calls_at, quiet_give}
 use Rattle.abi_bindgen.specs.Account.{Call, Peer}
 use Rattle.abi_driver.specs.Exports.{HandsOn}
 use Rattle.func_gen.specs.Meaning.{FuncState, call_of, func_meaning, run_code, run_head, setting_for}
-use Rattle.func_gen.specs.Operand.{is_operand}
 use Rattle.func_gen.specs.PartForms.{are_operands}
 use Rattle.func_gen.specs.declared.function_bindgen.FunctionBindgen.{FunctionBindgen}
 use Rattle.func_gen.specs.declared.operand.ExprOperand.{ExprOperand}
 use Rattle.func_gen.proofs.PartRows.{parts_stand}
-use Rattle.func_gen.proofs.Quiet.{quiet_operand}
 use Rattle.func_gen.proofs.Steps.{seen_calls}
 use Rattle.wrapper_closing.specs.ClosedExport.{ClosesExport, export_file}
 use Rattle.wrapper_closing.specs.ImportBlock.{tail_of}

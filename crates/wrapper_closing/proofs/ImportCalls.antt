@@ -28,8 +28,9 @@ use Rattle.wrapper_values.specs.declared.state.State.{State}
 use Rattle.wrapper_values.specs.Act as machine
 use Rattle.wrapper_values.specs.Setting.{Setting}
 use Rattle.wrapper_run.specs.Run.{answer_and_leave, run_fn, run_stmts, run_tail}
-use Rattle.wrapper_run.proofs.StepLemmas.{Quiet, calls_at, quiet_answers, quiet_pure}
 use Rattle.wrapper_run.proofs.StmtSteps.{runs-code}
+use Rattle.wrapper_run.specs.Inward.{CallsNothing}
+use Rattle.wrapper_run.proofs.QuietActs.{calls_at, quiet_answers, quiet_pure}
 use Rattle.abi_bindgen.specs.Account.{Call, Peer, account_in}
 use Rattle.abi_bindgen.specs.Area.{SameArea}
 use Rattle.abi_driver.specs.Imports.{Carries}
@@ -54,7 +55,7 @@ use Rattle.wrapper_closing.proofs.Start.{at_first}
 abbrev pub finish : Setting → FnItem → Option Expr → machine.Outcome (Unit {0}) → machine.Outcome (Option RustValue)
 finish w item tail o = machine.and_then (machine.and_then o (λ u. run_tail w tail)) (answer_and_leave w item.result)
 
-pub quiet_tail : (w : Setting) (given : List ExprOperand) → are_operands given ≡ true → Quiet (run_tail w (tail_of given))
+pub quiet_tail : (w : Setting) (given : List ExprOperand) → are_operands given ≡ true → CallsNothing (run_tail w (tail_of given))
 quiet_tail w [] h = quiet_pure _
 quiet_tail w (o ∷ os) h = quiet_operand w o.expr (and_parts (is_operand o.expr) (are_operands os) h).0
 

@@ -180,7 +180,7 @@ module _ (w : Setting) (P : (A : Type 0) → Act A → Type 0) (h : Within w P) 
   calls_core f (v ∷ []) = or_stops Val (stuck w) (option_map val.Word (core_word f v))
   calls_core f (v ∷ u ∷ vs) = h.stops Val (stuck w)
 
-  calls_callee : (k : Callee) (vs : List Val) → is_no_import k ≡ true → P Val (call_callee w k vs)
+  pub calls_callee : (k : Callee) (vs : List Val) → is_no_import k ≡ true → P Val (call_callee w k vs)
   calls_callee (alone name) vs k = absurd (cc)
   calls_callee (of_runtime name) vs k = calls_runtime name vs
   calls_callee (member_of ty name) vs k = calls_member ty name vs
@@ -189,7 +189,7 @@ module _ (w : Setting) (P : (A : Type 0) → Act A → Type 0) (h : Within w P) 
   calls_callee core_forget vs k = forgets vs
   calls_callee unknown vs k = h.stops Val (stuck w)
 
-  boxes : (v : Val) → P Val (boxed w v)
+  pub boxes : (v : Val) → P Val (boxed w v)
   unfolding boxed
   boxes v = go (buffer_of v)
     where
@@ -299,7 +299,7 @@ module _ (w : Setting) (P : (A : Type 0) → Act A → Type 0) (h : Within w P) 
   binds_values (name ∷ names) [] = h.stops (Unit {0}) (stuck w)
   binds_values (name ∷ names) (v ∷ vs) = h.follows (Unit {0}) (Unit {0}) (bind name v) (λ _. bind_values w names vs) (h.binds name v) (λ _. binds_values names vs)
 
-  binds_results : (names : MatchNames) (vs : List Val) → P (Unit {0}) (bind_results w names vs)
+  pub binds_results : (names : MatchNames) (vs : List Val) → P (Unit {0}) (bind_results w names vs)
   binds_results names_of.Nothing vs = binds_values [] vs
   binds_results (names_of.One name) [] = h.stops (Unit {0}) (stuck w)
   binds_results (names_of.One name) (v ∷ []) = h.binds name v
@@ -314,7 +314,7 @@ module _ (w : Setting) (P : (A : Type 0) → Act A → Type 0) (h : Within w P) 
   leaves_out [] = h.gives (Unit {0}) tt
   leaves_out (a ∷ more) = h.stops (Unit {0}) (stuck w)
 
-  enters : (p : ArmPattern) (v : Val) → P (Unit {0}) (enter_arm w p v)
+  pub enters : (p : ArmPattern) (v : Val) → P (Unit {0}) (enter_arm w p v)
   enters (arm.Case path) v = leaves_out (owned v)
   enters (arm.Payload path name) v =
       h.follows Val (Unit {0}) (or_stop (stuck w) (option_map val.Value (payload_of v))) (bind name) (or_stops Val (stuck w) (option_map val.Value (payload_of v))) (h.binds name)

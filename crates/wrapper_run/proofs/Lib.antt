@@ -1,6 +1,5 @@
 pub mod Acts
 pub mod Apart
-pub mod AskLemmas
 pub mod BesideActs
 pub mod BesideLemmas
 mod EnumExamples
@@ -12,6 +11,7 @@ pub mod FreeSteps
 pub mod GiveSteps
 pub mod GrowLemmas
 pub mod HeapLemmas
+pub mod InwardCalls
 mod InwardExamples
 pub mod InwardWalk
 pub mod LocalLemmas
@@ -21,6 +21,7 @@ pub mod NumberLemmas
 pub mod OuterLemmas
 pub mod OwningLemmas
 pub mod PartSteps
+pub mod QuietActs
 pub mod QuietSteps
 pub mod ScopeLemmas
 pub mod StepLemmas

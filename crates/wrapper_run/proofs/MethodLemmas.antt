@@ -27,7 +27,8 @@ use Rattle.wrapper_values.specs.Setting.{Setting, stuck}
 use Rattle.wrapper_run.proofs.NumberLemmas.{answered-unit}
 use Rattle.wrapper_run.proofs.TypedLemmas.{answered_in}
 use Rattle.wrapper_run.proofs.OwningLemmas.{ArePlain, drops_plain}
-use Rattle.wrapper_run.proofs.StepLemmas.{Quiet, calls_at, quiet_or_stop}
+use Rattle.wrapper_run.specs.Inward.{CallsNothing}
+use Rattle.wrapper_run.proofs.QuietActs.{calls_at, quiet_or_stop}
 
 -- a scope inside another
 
@@ -77,11 +78,11 @@ returned-unit items = ap (option_map (λ r. val.Value value.Unit)) (answered_in 
 
 -- to take an answer is no call, and the ended run shows the calls of an outcome
 
-quiet_answered : (w : Setting) (ty : TypeExpr) (a : Answer) → Quiet (method_answer w ty a)
+quiet_answered : (w : Setting) (ty : TypeExpr) (a : Answer) → CallsNothing (method_answer w ty a)
 quiet_answered w ty (answer.Value v heap) = record { quiet = λ s. (quiet_or_stop (stuck w) (returned_of w.items ty v)).quiet (record s { heap = heap; taken = taken_by (listed v) }) }
 quiet_answered w ty (answer.Words r writes blocks) = record { quiet = λ s. refl }
 
-pub quiet_taken : (w : Setting) (ty : TypeExpr) → Quiet (take_value w ty)
+pub quiet_taken : (w : Setting) (ty : TypeExpr) → CallsNothing (take_value w ty)
 unfolding take_value
 quiet_taken w ty = quiet_answered w ty w.answer
 

@@ -1,6 +1,6 @@
--- Single steps of the machine, and what leaves the calls as they are.
-use Rattle.std.proofs.Common.{◌≡◌, List, [], ◌∷◌, ◌++◌, Option, None, Some, map, refl, sym, ap, subst, true, cond, ◌∙◌, rules}
-use Rattle.std.specs.Prelude.{ℕ, zero, suc, ◌-◌, ◌^◌, Result, Ok, Err, nat_lt, option_and_then}
+-- Single steps of the machine.
+use Rattle.std.proofs.Common.{◌≡◌, List, [], ◌∷◌, ◌++◌, Option, None, Some, map, refl, sym, ap, subst, ◌∙◌, rules}
+use Rattle.std.specs.Prelude.{ℕ, ◌-◌, Result, option_and_then}
 use Rattle.std.specs.List.{AllZip}
 use Rattle.std.specs.Option.{option_map}
 use Rattle.wit_model.specs.declared.wasm_type.WasmType.{WasmType}
@@ -9,14 +9,9 @@ use Rattle.rust_tree.specs.declared.expr.Expr.{Expr, Expr-F, fold-roll-Expr, map
 use Rattle.rust_tree.specs.declared.expr.Expr.TheVariants as expr
 use Rattle.rust_tree.specs.declared.expr.Expr.TheVariants.{rolls-Call, rolls-Cast, rolls-I32FromBool}
 use Rattle.rust_tree.specs.declared.path.Path.{Path}
-use Rattle.rust_tree.specs.declared.runtime_item.RuntimeItem.{RuntimeItem}
-use Rattle.rust_tree.specs.declared.runtime_item.RuntimeItem.TheVariants.{CabiDealloc, InvalidEnumDiscriminant, StringLift}
-use Rattle.std.specs.Str.{is_utf8}
-use Rattle.std.proofs.Common.{Bool, false}
+use Rattle.std.proofs.Common.{Bool}
 use Rattle.wrapper_data.specs.declared.run.TrapKind.TheVariants as trap
 use Rattle.wrapper_values.specs.declared.state.Local.{Local}
-use Rattle.wrapper_values.specs.Act.{stop}
-use Rattle.wrapper_values.specs.Owning.{buffer_of}
 use Rattle.wrapper_run.proofs.OwningLemmas.{ArePlain, buffer-text, drops_plain}
 use Rattle.wrapper_values.specs.declared.owning.View.{View}
 use Rattle.wrapper_values.specs.declared.owning.View.TheVariants as view_of
@@ -26,15 +21,10 @@ use Rattle.wrapper_values.specs.Locals.{ask_local}
 use Rattle.rust_tree.specs.declared.type_expr.TypeExpr.{TypeExpr}
 use Rattle.wrapper_values.specs.Effect.{answer_of}
 use Rattle.wrapper_run.specs.Run.{answer_and_leave, give_and_leave}
-use Rattle.std.proofs.Common.{drop, take}
-use Rattle.wrapper_run.specs.Blocks.{drop_value}
 use Rattle.wrapper_data.specs.Answered.{answered}
-use Rattle.wrapper_data.specs.declared.answer.Answer.{Answer}
 use Rattle.wrapper_data.specs.declared.answer.Answer.TheVariants as answer
-use Rattle.wrapper_data.specs.declared.block.Block.{Block}
 use Rattle.wrapper_data.specs.declared.run.CallPoint.{CallPoint}
 use Rattle.wrapper_data.specs.declared.run.Stop.{Stop}
-use Rattle.wrapper_data.specs.declared.run.TrapKind.{TrapKind}
 use Rattle.wrapper_data.specs.declared.value.RustValue.{RustValue}
 use Rattle.wrapper_data.specs.declared.value.RustValue.TheVariants as value
 use Rattle.wrapper_data.specs.declared.word.Word.{Word}
@@ -43,15 +33,16 @@ use Rattle.wrapper_values.specs.declared.state.State.{State}
 use Rattle.wrapper_values.specs.declared.state.Val.{Val}
 use Rattle.wrapper_values.specs.declared.state.Val.TheVariants as val
 use Rattle.wrapper_values.specs.Act.{Act, Runs, Outcome, Done, Stopped, ◌>>=◌, ◌>>◌, all, and_then, or_stop, pure}
-use Rattle.wrapper_values.specs.Effect.{cast_to, converted, lift_of, word_of_bool}
-use Rattle.wrapper_values.specs.Locals.{bind, lend_local, local_named, usable, use_local, used, value_of}
+use Rattle.wrapper_values.specs.Effect.{cast_to, word_of_bool}
+use Rattle.wrapper_values.specs.Locals.{lend_local, local_named, usable, use_local, used, value_of}
 use Rattle.wit_model.specs.Bytes.{Bytes}
-use Rattle.wrapper_values.specs.Owning.{owned, owned_in}
-use Rattle.wrapper_values.specs.Setting.{Setting, failed, stuck}
+use Rattle.wrapper_values.specs.Owning.{owned}
+use Rattle.wrapper_values.specs.Setting.{Setting, stuck}
 use Rattle.wrapper_values.specs.Typed.{answer_in}
+use Rattle.wrapper_run.proofs.QuietActs.{calls_at}
 use Rattle.wrapper_run.proofs.TypedLemmas.{answered_in}
-use Rattle.wrapper_run.specs.Blocks.{dealloc, dealloc_words, drop_local, drop_locals, free, free_all, free_bytes, free_found, free_untaken, keep_locals, leave_to, lift_buffer, lift_text, owned_block, owned_bytes, tested, untaken}
-use Rattle.wrapper_run.specs.Run.{alone, of_runtime, call, call_callee, call_point, call_runtime, callee, answer_act, apply, apply_one, converted_or_lifted, lift_act, ended, eval, eval_step, no_case, record_call, result_of, runtime_item_named, take_answer, apply_item}
+use Rattle.wrapper_run.specs.Blocks.{keep_locals, leave_to}
+use Rattle.wrapper_run.specs.Run.{alone, call, call_callee, call_point, callee, answer_act, ended, eval, eval_step, record_call, take_answer}
 
 -- an expression of a form runs as one level of it
 pub eval-form : (w : Setting) (form : Expr-F Expr) {e : Expr} {act : Act Val} (s new : State) (r : Result Val Halt)
@@ -152,127 +143,6 @@ pub import_gives : (w : Setting) (path : Path) (name : Bytes) (vs : List Val) (s
 import_gives w path name vs s p ty c h =
     ap (λ k. call_callee w k vs s) c ∙ ap (λ o. and_then (or_stop (stuck w) o s) (λ p. record_call p.0 >> take_answer w p.1)) h
 
--- what leaves the calls as they are
-
-abbrev pub calls_at : {A : Type 0} → Outcome A → List CallPoint
-calls_at (Done a s) = s.calls
-calls_at (Stopped e s) = s.calls
-
-pub record Quiet {A : Type 0} (act : Act A) : Type 0 where
-  pub quiet : (s : State) → calls_at (act s) ≡ s.calls
-
-pub quiet_pure : {A : Type 0} (a : A) → Quiet (pure a)
-quiet_pure a = record { quiet = λ s. refl }
-
-pub quiet_or_stop : {A : Type 0} (e : Stop) (o : Option A) → Quiet (or_stop e o)
-quiet_or_stop e None = record { quiet = λ s. refl }
-quiet_or_stop e (Some a) = record { quiet = λ s. refl }
-
-pub quiet_then : {A B : Type 0} (act : Act A) (f : A → Act B) → Quiet act → ((a : A) → Quiet (f a)) → Quiet (act >>= f)
-quiet_then {A = A} {B = B} act f h k = record { quiet = λ s. go s (act s) (h.quiet s) }
-  where
-    go : (s : State) (o : Outcome A) → calls_at o ≡ s.calls → calls_at (and_then o f) ≡ s.calls
-    go s (Done a t) e = (k a).quiet t ∙ e
-    go s (Stopped x t) e = e
-
-quiet_used : (name : Bytes) (v : Val) (o : List ℕ) → Quiet (used name v o)
-quiet_used name v [] = quiet_pure v
-quiet_used name v (a ∷ more) = record { quiet = λ s. refl }
-
-pub quiet_use : (e : Stop) (name : Bytes) → Quiet (use_local e name)
-unfolding use_local
-quiet_use e name =
-    record { quiet = λ s. (quiet_then (or_stop e (option_and_then usable (value_of (local_named name s.locals)))) (λ v. used name v (owned v)) (quiet_or_stop e (option_and_then usable (value_of (local_named name s.locals)))) (λ v. quiet_used name v (owned v))).quiet s }
-
-pub quiet_bind : (name : Bytes) (v : Val) → Quiet (bind name v)
-unfolding bind
-quiet_bind name v = record { quiet = λ s. refl }
-
-pub quiet_answer : (w : Setting) (ty : Option WasmType) → Quiet (take_answer w ty)
-unfolding take_answer
-quiet_answer w ty = go w.answer
-  where
-    go : (a : Answer) → Quiet (answer_act w ty a)
-    go (answer.Words r writes blocks) = record { quiet = λ s. (quiet_or_stop (stuck w) (result_of ty r)).quiet (record s { heap = answered blocks writes s.heap }) }
-    go (answer.Value v h) = record { quiet = λ s. refl }
-
-pub quiet_local : (w : Setting) (name : Bytes) → Quiet (eval w (expr.Local name))
-quiet_local w name = subst Quiet (sym (eval-local w name)) (quiet_use (stuck w) name)
-
-pub quiet_one : {A : Type 0} (act : Act A) → Quiet act → Quiet (all (act ∷ []))
-quiet_one act h = quiet_then act (λ x. pure [] >>= (λ xs. pure (x ∷ xs))) h (λ x. quiet_then (pure []) (λ xs. pure (x ∷ xs)) (quiet_pure []) (λ xs. quiet_pure (x ∷ xs)))
-
-pub quiet_lift_act : (w : Setting) (o : Option (Result RustValue TrapKind)) → Quiet (lift_act w o)
-quiet_lift_act w None = record { quiet = λ s. refl }
-quiet_lift_act w (Some (Ok v)) = record { quiet = λ s. refl }
-quiet_lift_act w (Some (Err kind)) = record { quiet = λ s. refl }
-
-quiet_apply : (w : Setting) (o : Option Word) (l : Option (Result RustValue TrapKind)) → Quiet (converted_or_lifted w o l)
-quiet_apply w None l = quiet_lift_act w l
-quiet_apply w (Some x) l = record { quiet = λ s. refl }
-
-quiet_tested : (w : Setting) (v : Val) (o : Option (List ℕ)) → Quiet (tested w v o)
-quiet_tested w v None = record { quiet = λ s. refl }
-quiet_tested w v (Some bytes) = go (is_utf8 bytes)
-  where
-    go : (b : Bool) → Quiet (cond b (pure v) (stop (failed w trap.Utf8)))
-    go true = record { quiet = λ s. refl }
-    go false = record { quiet = λ s. refl }
-
-quiet_lift : (w : Setting) (v : Val) (o : Option (ℕ × ℕ × Bool)) → Quiet (lift_buffer w v o)
-quiet_lift w v None = record { quiet = λ s. refl }
-quiet_lift w v (Some (address, size, false)) = record { quiet = λ s. refl }
-quiet_lift w v (Some (address, size, true)) = record { quiet = λ s. (quiet_tested w v (owned_bytes address size s)).quiet s }
-
-quiet_item : (w : Setting) (i : RuntimeItem) (v : Val) → Quiet (apply_item w i v)
-unfolding lift_text
-quiet_item w StringLift v = quiet_lift w v (buffer_of v)
-quiet_item w i v = quiet_apply w (converted i v) (lift_of w.form i v)
-
-quiet_apply_one : (w : Setting) (i : Option RuntimeItem) (vs : List Val) → Quiet (apply_one w i vs)
-quiet_apply_one w (Some i) (v ∷ []) = quiet_item w i v
-quiet_apply_one w None vs = record { quiet = λ s. refl }
-quiet_apply_one w (Some i) [] = record { quiet = λ s. refl }
-quiet_apply_one w (Some i) (v ∷ u ∷ vs) = record { quiet = λ s. refl }
-
-pub quiet_free_bytes : (w : Setting) (address size : ℕ) → Quiet (free_bytes w address size)
-quiet_free_bytes w address zero = quiet_pure tt
-quiet_free_bytes w address (suc n) = record { quiet = λ s. go s (untaken address (suc n) s) }
-  where
-    go : (s : State) (o : Option Block) → calls_at (free_untaken w address (suc n) o s) ≡ s.calls
-    go s None = refl
-    go s (Some b) = refl
-
-pub quiet_dealloc : (w : Setting) (address size : ℕ) → Quiet (dealloc w address size)
-unfolding dealloc
-quiet_dealloc w address size = go (nat_lt (2 ^ 31 - 1) size)
-  where
-    go : (b : Bool) → Quiet (cond b (stop (failed w trap.Size)) (free_bytes w address size))
-    go true = record { quiet = λ s. refl }
-    go false = quiet_free_bytes w address size
-
-pub quiet_dealloc_words : (w : Setting) (vs : List Val) → Quiet (dealloc_words w vs)
-quiet_dealloc_words w (val.Word (word.Pointer address) ∷ val.Word (word.Length size) ∷ val.Word (word.Length align) ∷ []) =
-    quiet_then (dealloc w address size) (λ _. pure (val.Value value.Unit)) (quiet_dealloc w address size) (λ _. quiet_pure (val.Value value.Unit))
-quiet_dealloc_words w _ = record { quiet = λ s. refl }
-
-quiet_no_case : (w : Setting) (vs : List Val) → Quiet (no_case w vs)
-quiet_no_case w [] = record { quiet = λ s. refl }
-quiet_no_case w (v ∷ vs) = record { quiet = λ s. refl }
-
-quiet_applied : (w : Setting) (i : Option RuntimeItem) (vs : List Val) → Quiet (apply w i vs)
-quiet_applied w (Some CabiDealloc) vs = quiet_dealloc_words w vs
-quiet_applied w (Some InvalidEnumDiscriminant) vs = quiet_no_case w vs
-quiet_applied w i vs = quiet_apply_one w i vs
-
--- a call of a function of `_rt` is no call of a core import
-pub quiet_runtime : (w : Setting) (path : Path) (function : Bytes) (e : Expr) → callee path ≡ of_runtime function → Quiet (eval w e) → Quiet (eval w (expr.Call path (e ∷ [])))
-unfolding call_runtime
-quiet_runtime w path function e c h =
-    subst Quiet (sym (eval-call w path (e ∷ [])))
-    (quiet_then (all (eval w e ∷ [])) (λ vs. call w path vs) (quiet_one (eval w e) h)
-    (λ vs. subst Quiet (sym (ap (λ k. call_callee w k vs) c)) (quiet_applied w (runtime_item_named w.items function) vs)))
-
 pub no_answer_gives : (w : Setting) (s : State) → w.answer ≡ answer.Words None [] [] → take_answer w None s ≡ Done (val.Value value.Unit) s
 unfolding take_answer
 no_answer_gives w s h = ap (λ a. answer_act w None a s) h
@@ -281,45 +151,6 @@ no_answer_gives w s h = ap (λ a. answer_act w None a s) h
 pub ended-calls : (o : Outcome (Option RustValue)) → (ended o).calls ≡ calls_at o
 ended-calls (Done v s) = refl
 ended-calls (Stopped e s) = refl
-
--- the end of a scope calls nothing
-
-quiet_found : (w : Setting) (address : ℕ) (o : Option Block) → Quiet (free_found w address o)
-quiet_found w address None = record { quiet = λ s. refl }
-quiet_found w address (Some b) = record { quiet = λ s. refl }
-
-quiet_free : (w : Setting) (address : ℕ) → Quiet (free w address)
-unfolding free
-quiet_free w address = record { quiet = λ s. (quiet_found w address (owned_block address s)).quiet s }
-
-quiet_free_all : (w : Setting) (addresses : List ℕ) → Quiet (free_all w addresses)
-quiet_free_all w [] = quiet_pure tt
-quiet_free_all w (a ∷ addresses) = quiet_then (free w a) (λ _. free_all w addresses) (quiet_free w a) (λ _. quiet_free_all w addresses)
-
-quiet_drops : (w : Setting) (locals : List Local) → Quiet (drop_locals w locals)
-quiet_drops w [] = quiet_pure tt
-quiet_drops w (l ∷ locals) = quiet_then (drop_locals w locals) (λ _. drop_local w l.value) (quiet_drops w locals) (λ _. quiet_free_all w (owned_in l.value))
-
-pub quiet_leave : (w : Setting) (kept : ℕ) → Quiet (leave_to w kept)
-unfolding leave_to
-quiet_leave w kept = record { quiet = λ s. go s (drop_locals w (drop kept s.locals) (record s { locals = [] })) ((quiet_drops w (drop kept s.locals)).quiet (record s { locals = [] })) }
-  where
-    go : (s : State) (o : Outcome (Unit {0})) → calls_at o ≡ s.calls → calls_at (and_then o (λ _. keep_locals (take kept s.locals))) ≡ s.calls
-    go s (Done u t) e = e
-    go s (Stopped x t) e = e
-
-pub quiet_give : {A : Type 0} (w : Setting) (o : Option A) → Quiet (give_and_leave w o)
-quiet_give w o =
-    quiet_then (or_stop (stuck w) o) (λ r. leave_to w 0 >> pure r) (quiet_or_stop (stuck w) o)
-    (λ r. quiet_then (leave_to w 0) (λ _. pure r) (quiet_leave w 0) (λ _. quiet_pure r))
-
--- the answer of a body, and the end of its scope
-
-pub quiet_answers : (w : Setting) (ty : TypeExpr) (v : Val) → Quiet (answer_and_leave w ty v)
-quiet_answers w ty v = quiet_give w (answer_in w.items ty v)
-
-pub quiet_drop : (w : Setting) (v : Val) → Quiet (drop_value w v)
-quiet_drop w v = quiet_free_all w (owned v)
 
 -- where no local owns anything, nothing is freed
 

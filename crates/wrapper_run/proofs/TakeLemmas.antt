@@ -1,6 +1,6 @@
 -- Steps by which a text is taken over and moved, and the address of an area is told.
-use Rattle.std.proofs.Common.{◌≡◌, Bool, ℕ, zero, suc, ◌^◌, ◌-◌, true, false, cond, List, [], ◌∷◌, ◌++◌, Option, None, Some, refl, sym, subst, ap, ◌∙◌}
-use Rattle.std.specs.Prelude.{nat_eq, nat_lt, option_and_then}
+use Rattle.std.proofs.Common.{◌≡◌, Bool, ℕ, zero, suc, ◌-◌, true, false, List, [], ◌∷◌, ◌++◌, Option, None, Some, refl, sym, ap, ◌∙◌}
+use Rattle.std.specs.Prelude.{option_and_then}
 use Rattle.std.specs.Option.{option_map}
 use Rattle.rust_tree.specs.declared.expr.Expr.{Expr, Expr-F, fold-roll-Expr}
 use Rattle.rust_tree.specs.declared.expr.Expr.TheVariants as expr
@@ -14,20 +14,19 @@ use Rattle.wrapper_values.specs.declared.state.Local.{Local}
 use Rattle.wrapper_values.specs.declared.state.State.{State}
 use Rattle.wrapper_values.specs.declared.state.Val.{Val}
 use Rattle.wrapper_values.specs.declared.state.Val.TheVariants as val
-use Rattle.wrapper_values.specs.Act.{Act, Done, ◌>>=◌, and_then, or_stop, stop}
-use Rattle.wrapper_run.specs.Blocks.{untaken, own, own_block, owner_of, take_over}
+use Rattle.wrapper_values.specs.Act.{Act, Done, ◌>>=◌, and_then, or_stop}
+use Rattle.wrapper_run.specs.Blocks.{take_over}
 use Rattle.wrapper_values.specs.Locals.{local_named, moved, usable, use_local, used, value_of}
 use Rattle.wit_model.specs.Bytes.{Bytes}
-use Rattle.wrapper_run.specs.Memory.{bytes_from}
 use Rattle.wrapper_values.specs.Owning.{owned}
 use Rattle.wrapper_run.specs.Run.{eval, eval_step, take_bytes}
-use Rattle.wrapper_values.specs.Setting.{Setting, failed, stuck}
+use Rattle.wrapper_values.specs.Setting.{Setting, stuck}
 use Rattle.wrapper_run.proofs.LocalLemmas.{bytes_eq-same, reads-new, reads_front}
 use Rattle.wrapper_values.proofs.ChangedLemmas.{changed_front, changed_last}
 use Rattle.std.specs.List.{list_any}
 use Rattle.std.specs.Str.{bytes_eq}
 use Rattle.wrapper_run.proofs.OwningLemmas.{owned-block, owned-empty}
-use Rattle.wrapper_run.proofs.StepLemmas.{Quiet, eval-local, quiet_then}
+use Rattle.wrapper_run.proofs.StepLemmas.{eval-local}
 use Rattle.std.proofs.Common.{rules}
 use Rattle.rust_tree.specs.declared.type_expr.TypeExpr.{TypeExpr-F, out-TypeExpr, the_lemmas as type_lemmas}
 use Rattle.rust_tree.specs.declared.type_expr.TypeExpr.TheVariants as type
@@ -43,7 +42,7 @@ use Rattle.wrapper_run.proofs.StepLemmas.{ask_gives}
 
 -- take-over
 
-eval-raw : (w : Setting) (e : Expr) (size : Bytes) → eval w (expr.FromRawParts e size) ≡ (eval w e >>= (λ v. λ s. take_bytes w (value_of (local_named size s.locals)) v s))
+pub eval-raw : (w : Setting) (e : Expr) (size : Bytes) → eval w (expr.FromRawParts e size) ≡ (eval w e >>= (λ v. λ s. take_bytes w (value_of (local_named size s.locals)) v s))
 eval-raw w e size = ap (eval w) (sym (rolls-FromRawParts e size)) ∙ fold-roll-Expr (Act Val) (eval_step w) (Expr-F.FromRawParts e size)
 
 pub raw_gives : (w : Setting) (e : Expr) (name : Bytes) (p n : ℕ) (s : State)
@@ -94,60 +93,6 @@ text_gives w name p n front behind s e apart =
     ap (λ act. act s) (eval-local w name)
     ∙ uses_text w name p n s (ap (λ ls. value_of (local_named name ls)) e ∙ ap value_of (reads_front name (front ++ text_local name p n ∷ []) behind apart) ∙ reads-new name (Some v) front)
     ∙ ap (λ ls. Done v (record s { locals = ls })) (ap (after_use n name) e ∙ use_front name n (front ++ text_local name p n ∷ []) behind apart ∙ ap (λ ls. ls ++ behind) (use_last name p n front))
-
--- a take-over is no call
-
-quiet_owner : (w : Setting) (p n : ℕ) (o : Option (List ℕ)) → Quiet (owner_of w p n o)
-quiet_owner w p n None = record { quiet = λ s. refl }
-quiet_owner w p n (Some bytes) = record { quiet = λ s. refl }
-
-quiet_block : (w : Setting) (p n : ℕ) (o : Option Block) → Quiet (own_block w p n o)
-quiet_block w p n None = record { quiet = λ s. refl }
-quiet_block w p n (Some b) = quiet_owner w p n (bytes_from b.cells 0 n)
-
-quiet_own : (w : Setting) (p n : ℕ) → Quiet (own w p n)
-quiet_own w p zero = record { quiet = λ s. refl }
-quiet_own w p (suc n) = record { quiet = λ s. (quiet_block w p (suc n) (untaken p (suc n) s)).quiet s }
-
-quiet_take_over : (w : Setting) (p n : ℕ) → Quiet (take_over w p n)
-unfolding take_over
-quiet_take_over w p n = go (nat_lt (2 ^ 31 - 1) n) (nat_eq p 0)
-  where
-    go : (a b : Bool) → Quiet (cond a (stop (failed w trap.Size)) (cond b (stop (failed w trap.Pointer)) (own w p n)))
-    go true b = record { quiet = λ s. refl }
-    go false true = record { quiet = λ s. refl }
-    go false false = quiet_own w p n
-
-quiet_of_word : (w : Setting) (n : ℕ) (x : Word) → Quiet (take_bytes w (Some (val.Word (word.Length n))) (val.Word x))
-quiet_of_word w n (word.Pointer p) = quiet_take_over w p n
-quiet_of_word w n (word.I32 z) = record { quiet = λ s. refl }
-quiet_of_word w n (word.I64 z) = record { quiet = λ s. refl }
-quiet_of_word w n (word.F32 bits) = record { quiet = λ s. refl }
-quiet_of_word w n (word.F64 bits) = record { quiet = λ s. refl }
-quiet_of_word w n (word.Length m) = record { quiet = λ s. refl }
-quiet_of_word w n (word.Slot o) = record { quiet = λ s. refl }
-
-quiet_of_value : (w : Setting) (n : ℕ) (v : Val) → Quiet (take_bytes w (Some (val.Word (word.Length n))) v)
-quiet_of_value w n (val.Word x) = quiet_of_word w n x
-quiet_of_value w n (val.Value r) = record { quiet = λ s. refl }
-quiet_of_value w n (val.Area a m) = record { quiet = λ s. refl }
-
-quiet_take : (w : Setting) (o : Option Val) (v : Val) → Quiet (take_bytes w o v)
-quiet_take w None v = record { quiet = λ s. refl }
-quiet_take w (Some (val.Word (word.Length n))) v = quiet_of_value w n v
-quiet_take w (Some (val.Word (word.Pointer p))) v = record { quiet = λ s. refl }
-quiet_take w (Some (val.Word (word.I32 z))) v = record { quiet = λ s. refl }
-quiet_take w (Some (val.Word (word.I64 z))) v = record { quiet = λ s. refl }
-quiet_take w (Some (val.Word (word.F32 bits))) v = record { quiet = λ s. refl }
-quiet_take w (Some (val.Word (word.F64 bits))) v = record { quiet = λ s. refl }
-quiet_take w (Some (val.Word (word.Slot o))) v = record { quiet = λ s. refl }
-quiet_take w (Some (val.Value r)) v = record { quiet = λ s. refl }
-quiet_take w (Some (val.Area a m)) v = record { quiet = λ s. refl }
-
-pub quiet_raw : (w : Setting) (e : Expr) (name : Bytes) → Quiet (eval w e) → Quiet (eval w (expr.FromRawParts e name))
-quiet_raw w e name h =
-    subst Quiet (sym (eval-raw w e name))
-    (quiet_then (eval w e) (λ v. λ s. take_bytes w (value_of (local_named name s.locals)) v s) h (λ v. record { quiet = λ s. (quiet_take w (value_of (local_named name s.locals)) v).quiet s }))
 
 -- the address of an area
 

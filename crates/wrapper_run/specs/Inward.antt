@@ -103,18 +103,13 @@ stmt_test = fold-Stmt StmtTest Bool Bool inward_stmt_step inward_arm_step inward
 abbrev pub is_inward : Block → Bool
 is_inward b = are_inward None (map stmt_test (out-Block b).stmts) && is_inward_tail (out-Block b).tail
 
--- a state has the calls and the requests of one before it
-pub record AskedAlike (s t : State) : Type 0 where
-  pub calls : t.calls ≡ s.calls
-  pub requests : t.requests ≡ s.requests
+-- the act makes no call, from every state, and however it ends
+pub record CallsNothing {A : Type 0} (act : Act A) : Type 0 where
+  pub quiet : (s : State) → (state_of (act s)).calls ≡ s.calls
 
--- from every state, and however the act ends
-pub record AsksNothing {A : Type 0} (act : Act A) : Type 0 where
-  pub nothing : (s : State) → AskedAlike s (state_of (act s))
-
-abbrev pub BlocksAskNothing : Type 0
-BlocksAskNothing = (w : Setting) (b : Block) → is_inward b ≡ true → AsksNothing (run_block w b)
+abbrev pub BlocksCallNothing : Type 0
+BlocksCallNothing = (w : Setting) (b : Block) → is_inward b ≡ true → CallsNothing (run_block w b)
 
 -- and so for a block that is no body
-abbrev pub InnerBlocksAskNothing : Type 0
-InnerBlocksAskNothing = (w : Setting) (b : Block) → is_inward b ≡ true → AsksNothing (run_inner w b)
+abbrev pub InnerBlocksCallNothing : Type 0
+InnerBlocksCallNothing = (w : Setting) (b : Block) → is_inward b ≡ true → CallsNothing (run_inner w b)

@@ -1,7 +1,7 @@
 //! Laws of the machine, each of any code: a proof above may cite them. The functions do nothing.
 
 ghost use Rattle.wrapper_run.specs.Growth.{BlocksGrow, ExportsGrow, ImportsGrow, InnerBlocksGrow};
-ghost use Rattle.wrapper_run.specs.Inward.{BlocksAskNothing, InnerBlocksAskNothing};
+ghost use Rattle.wrapper_run.specs.Inward.{BlocksCallNothing, InnerBlocksCallNothing};
 ghost use Rattle.wrapper_run.specs.OtherBlocks.{IgnoresBlocks, InnerIgnoresBlocks};
 ghost use Rattle.wrapper_run.specs.OuterLocals.{BlocksRunBehind, InnerBlocksRunBehind};
 ghost use Rattle.wrapper_run.specs.UnusedLocals.{IgnoresUnused, InnerIgnoresUnused};
@@ -27,10 +27,10 @@ pub fn beside_law()
     ensures inner { InnerIgnoresBlocks }
 {}
 
-/// Inward code makes no call and no request, from whatever state and however it ends.
+/// Inward code makes no call, from whatever state and however it ends.
 pub fn inward_law()
-    ensures bodies { BlocksAskNothing }
-    ensures inner { InnerBlocksAskNothing }
+    ensures bodies { BlocksCallNothing }
+    ensures inner { InnerBlocksCallNothing }
 {}
 
 /// Inward code that is not stuck behind the locals in its reach, none of which owns anything, ends behind all locals as it does behind those, and leaves

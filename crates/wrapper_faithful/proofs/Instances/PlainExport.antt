@@ -42,7 +42,9 @@ use Rattle.wrapper_values.specs.Setting.{Setting}
 use Rattle.wrapper_run.proofs.FreeSteps.{unit_words}
 use Rattle.wrapper_run.proofs.MethodLemmas.{ended-words, leaves_inner, method_gives, quiet_taken, returned-unit, value_gives}
 use Rattle.wrapper_run.proofs.OwningLemmas.{owned-unit}
-use Rattle.wrapper_run.proofs.StepLemmas.{Quiet, gives_plain, quiet_drop, quiet_give, quiet_leave, quiet_pure, quiet_then}
+use Rattle.wrapper_run.proofs.StepLemmas.{gives_plain}
+use Rattle.wrapper_run.specs.Inward.{CallsNothing}
+use Rattle.wrapper_run.proofs.QuietActs.{quiet_drop, quiet_give, quiet_leave, quiet_pure, quiet_then}
 use Rattle.wrapper_faithful.specs.Export.{IsExportFaithful, RunOfExport, bill_of}
 use Rattle.wrapper_faithful.specs.Passed.{Passed}
 use Rattle.wrapper_faithful.specs.Resources.{Resources, calls_of}
@@ -98,7 +100,7 @@ goes : (a : Answer) (form : Form) (heap : Heap) (choices : Choices) → run_expo
 goes a form heap choices =
     ap (λ o. and_then (and_then (and_then o (λ v. leave_to (setting a form) 0 >> pure v)) (keep_result (setting a form) None)) (λ _. run_to_words (setting a form) None wrapper.rest)) (calls_once a form heap choices)
 
-quiet_end : (w : Setting) → Quiet (ends_with w)
+quiet_end : (w : Setting) → CallsNothing (ends_with w)
 quiet_end w =
     quiet_then (take_value w type.Unit >>= (λ v. leave_to w 0 >> pure v) >>= keep_result w None) (λ _. run_to_words w None wrapper.rest)
     (quiet_then (take_value w type.Unit >>= (λ v. leave_to w 0 >> pure v)) (keep_result w None)

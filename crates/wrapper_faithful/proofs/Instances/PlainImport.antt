@@ -46,7 +46,9 @@ use Rattle.wrapper_run.specs.Run.{answer_and_leave, begin, call_point, callee, e
 use Rattle.wrapper_values.specs.Setting.{Setting}
 use Rattle.wrapper_run.proofs.NumberLemmas.{answered-unit}
 use Rattle.wrapper_run.proofs.OwningLemmas.{ArePlain, owned-unit}
-use Rattle.wrapper_run.proofs.StepLemmas.{Quiet, answers_plain, call_gives, ended-calls, import_gives, no_answer_gives, quiet_answer, quiet_answers, quiet_drop, quiet_pure, quiet_then}
+use Rattle.wrapper_run.proofs.StepLemmas.{answers_plain, call_gives, ended-calls, import_gives, no_answer_gives}
+use Rattle.wrapper_run.specs.Inward.{CallsNothing}
+use Rattle.wrapper_run.proofs.QuietActs.{quiet_answer, quiet_answers, quiet_drop, quiet_pure, quiet_then}
 use Rattle.wrapper_faithful.specs.Arguments.{AreArguments}
 use Rattle.wrapper_faithful.specs.Import.{AnswersHonestly, IsFaithful, RunOfImport}
 use Rattle.wrapper_faithful.specs.Passed.{Passed}
@@ -104,7 +106,7 @@ goes w heap choices =
     (runs-first w (stmt.Import decl) (declare decl) (stmt.Expr (expr.Call path []) ∷ []) begun (run-import w decl) ∙ runs-expr w (expr.Call path []) [] (declared_state heap choices))
     ∙ ap (λ o. and_then (and_then (and_then (and_then o (drop_value w)) (λ _. run_stmts w [])) (λ _. run_tail w None)) (answer_and_leave w type.Unit)) (calls_once w heap choices)
 
-quiet_behind : (w : Setting) → Quiet (behind w)
+quiet_behind : (w : Setting) → CallsNothing (behind w)
 quiet_behind w =
     quiet_then (take_answer w None >>= drop_value w >> run_stmts w [] >> run_tail w None) (answer_and_leave w type.Unit)
     (quiet_then (take_answer w None >>= drop_value w >> run_stmts w []) (λ _. run_tail w None)
