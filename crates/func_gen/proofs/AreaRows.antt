@@ -1,6 +1,6 @@
 -- The law of the return area: it stands in a local, or is placed when its pointer is first taken.
 use Rattle.std.proofs.Common.{◌≡◌, ℕ, ◌<◌, Bool, true, false, if◌then◌else◌, not, ◌&&◌, ◌||◌, nat_eq, ◌%◌, List, [], ◌∷◌, ◌++◌, reverse, Option, None, Some, refl, sym, ap, ◌∙◌, subst, arith}
-use Rattle.std.specs.Prelude.{IfSome, option_and_then, option_map, option_to_list, codes}
+use Rattle.std.specs.Prelude.{IfSome, option_to_list, codes}
 use Rattle.std.specs.List.{flat_map}
 use Rattle.std.proofs.lemmas.Bool.{and_parts, not-true}
 use Rattle.wit_model.specs.Bytes.{Bytes}
@@ -26,8 +26,8 @@ use Rattle.wrapper_values.specs.declared.state.Val.{Val}
 use Rattle.wrapper_values.specs.declared.state.Val.TheVariants as val
 use Rattle.wrapper_values.specs.Act as machine
 use Rattle.wrapper_values.specs.Act.{and_then, pure}
-use Rattle.wrapper_values.specs.Locals.{ask_local, bind, local_named, value_of}
-use Rattle.wrapper_values.specs.Owning.{owned_in, view}
+use Rattle.wrapper_values.specs.Locals.{bind}
+use Rattle.wrapper_values.specs.Owning.{owned_in}
 use Rattle.wrapper_values.specs.Setting.{Setting, stuck}
 use Rattle.wrapper_run.specs.Places.{area_block, area_in, is_fitting, place_area, place_at, place_static, request_of, static_place, static_pointer, with_area}
 use Rattle.wrapper_run.specs.Run.{eval, run_stmts}
@@ -36,7 +36,7 @@ use Rattle.wrapper_run.proofs.QuietSteps.{quiet_static}
 use Rattle.wrapper_run.proofs.StmtSteps.{runs-let}
 use Rattle.wrapper_run.proofs.TakeLemmas.{area_gives, eval-return_pointer}
 use Rattle.wrapper_run.specs.Inward.{CallsNothing}
-use Rattle.wrapper_run.proofs.QuietActs.{quiet_or_stop}
+use Rattle.wrapper_run.proofs.QuietActs.{quiet_ask}
 use Rattle.abi_bindgen.specs.declared.bindgen.Asked.{Asked}
 use Rattle.abi_bindgen.specs.Account.{Done, Follows, Got, Outcome, Peer, Stopped, Stuck}
 use Rattle.abi_bindgen.specs.Area.{HoldsRecord, IsAlignment, newly, placed, pointing}
@@ -97,10 +97,7 @@ noted_grows a b aligned = record {
 -- 2. The two pointers make no call
 
 quiet_return_pointer : (w : Setting) (name : Bytes) → CallsNothing (eval w (expr.ReturnPointer name))
-unfolding ask_local
-quiet_return_pointer w name =
-    subst CallsNothing (sym (eval-return_pointer w name))
-    (record { quiet = λ s. (quiet_or_stop (stuck w) (option_map val.Word (option_and_then (view view_of.AreaAddress) (value_of (local_named name s.locals))))).quiet s })
+quiet_return_pointer w name = subst CallsNothing (sym (eval-return_pointer w name)) (quiet_ask (stuck w) view_of.AreaAddress name)
 
 quiet_pointer : (b : FunctionBindgen) (w : Setting) → CallsNothing (eval w (area_pointer b))
 quiet_pointer b w = go b.import

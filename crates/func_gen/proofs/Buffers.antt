@@ -1,5 +1,5 @@
 -- A buffer in a local, and locals of its address and its length.
-use Rattle.std.proofs.Common.{◌≡◌, ℕ, ◌+◌, Bool, true, false, List, [], ◌∷◌, ◌++◌, None, Some, refl, sym, ap, ◌∙◌, arith}
+use Rattle.std.proofs.Common.{Bool, List, None, Some, [], ap, arith, false, refl, sym, true, ℕ, ◌++◌, ◌+◌, ◌∙◌, ◌∷◌, ◌≡◌}
 use Rattle.std.specs.Prelude.{option_and_then}
 use Rattle.std.specs.Str.{bytes_eq}
 use Rattle.wit_model.specs.declared.types.WitType.TheVariants as wit
@@ -27,20 +27,21 @@ use Rattle.wrapper_run.specs.Run.{eval, run_stmts}
 use Rattle.wrapper_run.proofs.GiveSteps.{let_runs}
 use Rattle.wrapper_run.proofs.LocalLemmas.{reads-new, reads-past}
 use Rattle.wrapper_run.proofs.OwningLemmas.{buffer-text, no_buffer-f32, no_buffer-f64, no_buffer-number}
-use Rattle.wrapper_run.proofs.QuietSteps.{quiet_as_ptr, quiet_len, quiet_let}
 use Rattle.wrapper_run.proofs.StepLemmas.{as_ptr_gives, len_gives}
-use Rattle.wrapper_run.specs.Inward.{CallsNothing}
+use Rattle.wrapper_run.specs.Inward.{is_inward_expr}
 use Rattle.abi_bindgen.specs.Meaning.{Fact, item, of, word}
 use Rattle.func_gen.specs.declared.function_bindgen.FunctionBindgen.{FunctionBindgen}
 use Rattle.func_gen.specs.declared.operand.ExprOperand.{ExprOperand}
 use Rattle.func_gen.specs.Facts.{Hold}
 use Rattle.func_gen.specs.Forms.{operand_of}
+use Rattle.func_gen.specs.InwardCode.{are_inward_stmts}
 use Rattle.func_gen.specs.Meaning.{account_of, owns_of, passing_level}
 use Rattle.func_gen.specs.Read.{Read, Under, as_pointer, env_of}
 use Rattle.func_gen.specs.ReadForms.{read-cast_mut, read-local}
 use Rattle.func_gen.specs.TextForms.{buffer_stmts, len_name, ptr_name, vec_name}
 use Rattle.func_gen.specs.Slot.{Slot}
 use Rattle.func_gen.proofs.Declared.{Three, fresh_name, keeps, with_name, with_three, with_two}
+use Rattle.func_gen.proofs.InwardForms.{address_inward, inward_both, length_inward, let_inward}
 use Rattle.func_gen.proofs.Lasting.{add_plain, bound_under, owns_with, with_local}
 use Rattle.func_gen.proofs.Moving.{uses}
 use Rattle.func_gen.proofs.Several.{add_local}
@@ -127,10 +128,12 @@ owns_buffer f s t p n o =
     let s2 = with_local s1 (ptr_name t) (val.Word (core.Pointer p)) in
     omega (arith, owns_with f s (vec_name t) (buffer_val p n o), owns_with f s1 (ptr_name t) (val.Word (core.Pointer p)), owns_with f s2 (len_name t) (val.Word (core.Length n)))
 
-pub quiet_buffer : (w : Setting) (t : ℕ) (e : Expr) (more : List Stmt) → CallsNothing (eval w e) → CallsNothing (run_stmts w more) → CallsNothing (run_stmts w (buffer_stmts t e ++ more))
-quiet_buffer w t e more h k =
-    quiet_let w (vec_name t) e (stmt.Let (ptr_name t) (expr.AsPtr (vec_name t)) ∷ stmt.Let (len_name t) (expr.Len (vec_name t)) ∷ more) h
-    (quiet_let w (ptr_name t) (expr.AsPtr (vec_name t)) (stmt.Let (len_name t) (expr.Len (vec_name t)) ∷ more) (quiet_as_ptr w (vec_name t)) (quiet_let w (len_name t) (expr.Len (vec_name t)) more (quiet_len w (vec_name t)) k))
+pub buffer_inward : (t : ℕ) (e : Expr) → is_inward_expr e ≡ true → are_inward_stmts (buffer_stmts t e) ≡ true
+buffer_inward t e h =
+    let address = stmt.Let (ptr_name t) (expr.AsPtr (vec_name t)) in
+    let length = stmt.Let (len_name t) (expr.Len (vec_name t)) in
+    inward_both (stmt.Let (vec_name t) e ∷ []) (address ∷ length ∷ []) (let_inward e h (vec_name t))
+    (inward_both (address ∷ []) (length ∷ []) (let_inward (expr.AsPtr (vec_name t)) (address_inward (vec_name t)) (ptr_name t)) (let_inward (expr.Len (vec_name t)) (length_inward (vec_name t)) (len_name t)))
 
 abbrev pub buffer_facts : ℕ → ℕ → ℕ → List (Fact ExprOperand Slot RustValue)
 buffer_facts t p n = of (operand_of (expr.CastMut (ptr_name t))) (word (core.Pointer p)) ∷ of (operand_of (expr.Local (len_name t))) (word (core.Length n)) ∷ []

@@ -3,7 +3,6 @@ use Rattle.std.proofs.Common.{◌≡◌, ℕ, ◌+◌, ◌<◌, ◌≤◌, ◌^�
 use Rattle.std.specs.Prelude.{option_and_then}
 use Rattle.std.specs.List.{list_any}
 use Rattle.std.specs.Str.{bytes_eq}
-use Rattle.std.proofs.lemmas.Bool.{and_parts}
 use Rattle.wit_model.specs.Bytes.{Bytes}
 use Rattle.wit_model.specs.Distinct.{is_distinct}
 use Rattle.wit_model.specs.declared.wasm_type.WasmType.{WasmType}
@@ -30,11 +29,11 @@ use Rattle.wrapper_values.specs.CoreWords.{empty_slot}
 use Rattle.wrapper_values.specs.Locals.{bind, give_local, slot_with, write_slot}
 use Rattle.wrapper_values.specs.Setting.{Setting, stuck}
 use Rattle.wrapper_values.proofs.ChangedLemmas.{changed_last}
-use Rattle.wrapper_run.specs.Run.{eval, run_stmt, run_stmts}
+use Rattle.wrapper_run.specs.Run.{eval, run_stmts}
+use Rattle.wrapper_run.proofs.InwardCalls.{stmts_quiet}
 use Rattle.wrapper_run.proofs.LocalLemmas.{bytes_eq-same, reads-new}
 use Rattle.wrapper_run.proofs.StmtSteps.{run-slot, run-write, runs-first}
 use Rattle.wrapper_run.specs.Inward.{CallsNothing}
-use Rattle.wrapper_run.proofs.QuietActs.{quiet_bind, quiet_pure, quiet_then, quiet_write}
 use Rattle.abi_bindgen.specs.Constants.{AreCasts, CastsWords, cast_words}
 use Rattle.abi_bindgen.specs.Laws.{Facts, core_data, ofs}
 use Rattle.abi_bindgen.specs.Meaning.{Fact, of, word}
@@ -46,7 +45,6 @@ use Rattle.func_gen.specs.FactLemmas.{follows, is_said, word_read}
 use Rattle.func_gen.specs.Facts.{AreOwned, Hold, wrong}
 use Rattle.func_gen.specs.Forms.{operand_of}
 use Rattle.func_gen.specs.Meaning.{func_meaning, owns_of, seen, setting_for}
-use Rattle.func_gen.specs.Operand.{is_operand}
 use Rattle.func_gen.specs.PartForms.{are_operands, exprs_of, part_name}
 use Rattle.func_gen.specs.Read.{Env, env_of, less, read}
 use Rattle.func_gen.specs.Scope.{Takes, is_used}
@@ -56,7 +54,6 @@ use Rattle.func_gen.proofs.FlushRow.{Renamed}
 use Rattle.func_gen.proofs.Lasting.{area_same, bound_under, lasts, owns_with, part, with_local}
 use Rattle.func_gen.proofs.PartNames.{other_part}
 use Rattle.func_gen.proofs.PartsTaken.{AllFree, all_free, using, using_params, using_used}
-use Rattle.func_gen.proofs.Quiet.{quiet_operand}
 use Rattle.func_gen.proofs.Several.{add_local}
 use Rattle.wit_model.specs.declared.types.TypeDef.{TypeDef}
 use Rattle.rust_tree.specs.declared.item.Item.{Item}
@@ -68,6 +65,8 @@ use Rattle.func_gen.specs.Added.{Appends}
 use Rattle.func_gen.specs.CallForms.{FreshAll}
 use Rattle.func_gen.proofs.CallRows.{split_used}
 use Rattle.func_gen.proofs.Forming.{still_of, written}
+use Rattle.func_gen.proofs.InwardForms.{slots_inward}
+use Rattle.func_gen.proofs.OperandLists.{same_operands}
 use Rattle.func_gen.proofs.PartRows.{areas_last}
 use Rattle.func_gen.proofs.Rows.{same_area}
 use Rattle.func_gen.proofs.Steps.{func_adds, ran}
@@ -285,25 +284,7 @@ casted w b at t (c ∷ cs) (o ∷ os) (from ∷ froms) (last ∷ tos) (x ∷ ws)
 -- 5. No statement makes a call
 
 quiet_slots : (w : Setting) (at t : ℕ) (cs : List Bitcast) (os : List ExprOperand) → are_operands os ≡ true → CallsNothing (run_stmts w (stmts_from at cs (exprs_of os) t))
-quiet_slots w at t [] os ok = quiet_pure tt
-quiet_slots w at t (c ∷ cs) [] ok = quiet_pure tt
-quiet_slots w at t (c ∷ cs) (o ∷ os) ok = go (quiet_slots w (at + 1) t cs os (and_parts (is_operand o.expr) (are_operands os) ok).1) (needs_slot c) refl
-  where
-    slot : Bytes
-    slot = part_name slot_prefix t at
-
-    more : List Stmt
-    more = stmts_from (at + 1) cs (exprs_of os) t
-
-    go : CallsNothing (run_stmts w more) → (d : Bool) → needs_slot c ≡ d → CallsNothing (run_stmts w (cast_stmts d slot (cast_expr c o.expr) ++ more))
-    go behind false is = behind
-    go behind true is =
-        let two = and_parts (is_operand o.expr) (are_operands os) ok in
-        let plain : cast_expr c o.expr ≡ o.expr = ap (λ k. cast_expr k o.expr) (slot_is c is) in
-        subst (λ e. CallsNothing (run_stmts w (stmt.LetSlot slot ∷ stmt.WriteSlot slot e ∷ more))) (sym plain)
-        (quiet_then (run_stmt w (stmt.LetSlot slot)) (λ u. run_stmts w (stmt.WriteSlot slot o.expr ∷ more)) (subst CallsNothing (sym (run-slot w slot)) (quiet_bind slot empty_slot))
-        (λ u. quiet_then (run_stmt w (stmt.WriteSlot slot o.expr)) (λ u. run_stmts w more)
-        (subst CallsNothing (sym (run-write w slot o.expr)) (quiet_then (eval w o.expr) (write_slot (stuck w) slot) (quiet_operand w o.expr two.0) (λ v. quiet_write (stuck w) slot v))) (λ u. behind)))
+quiet_slots w at t cs os ok = stmts_quiet w (stmts_from at cs (exprs_of os) t) (slots_inward at cs (exprs_of os) t (same_operands os ∙ ok))
 
 -- 6. The row
 

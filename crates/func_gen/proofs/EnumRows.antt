@@ -47,11 +47,10 @@ use Rattle.wrapper_values.specs.Owning.{owned_by}
 use Rattle.wrapper_values.specs.Setting.{Setting}
 use Rattle.wrapper_run.specs.Run.{call_callee, call_member, callee, eval, lift_act, lift_case, lift_name, member_of, runtime_module_name}
 use Rattle.wrapper_run.proofs.EnumSteps.{callee-lift, member_lifted}
+use Rattle.wrapper_run.proofs.InwardCalls.{expr_quiet}
 use Rattle.wrapper_run.proofs.NumberLemmas.{num_of-number}
 use Rattle.wrapper_run.proofs.StepLemmas.{call_gives}
-use Rattle.wrapper_run.specs.Inward.{CallsNothing, is_no_import}
-use Rattle.wrapper_run.proofs.QuietSteps.{quiet_call, quiet_cast}
-use Rattle.wrapper_run.proofs.QuietActs.{quiet_one}
+use Rattle.wrapper_run.specs.Inward.{CallsNothing}
 use Rattle.abi_bindgen.specs.declared.instruction.Instruction.TheVariants.{EnumLift, EnumLower}
 use Rattle.abi_bindgen.specs.Account.{Peer, failing, stay}
 use Rattle.abi_bindgen.specs.Cases.{LiftsEnum, LowersEnum, case_word, reading_tag, tag_of}
@@ -78,10 +77,10 @@ use Rattle.func_gen.specs.StandLemmas.{owned-none, owned-some, owned-unit}
 use Rattle.func_gen.specs.TypeSites.{AreDefined, Defines, DefinesEnum, HasCases, held_cases}
 use Rattle.func_gen.proofs.FieldOrder.{defined_as}
 use Rattle.func_gen.proofs.Forming.{form_alone, form_let}
+use Rattle.func_gen.proofs.InwardForms.{lift_inward}
 use Rattle.func_gen.proofs.LiftedRows.{cast_given, low_u32, low_u8, says_one}
 use Rattle.func_gen.proofs.LowBits.{same_low}
 use Rattle.func_gen.proofs.Moving.{cast_owns}
-use Rattle.func_gen.proofs.Quiet.{quiet_operand}
 use Rattle.func_gen.proofs.Rows.{Agrees, let_adds, lets_served, none_adds, swaps}
 use Rattle.wrapper_meaning.proofs.Lists.{some_or, some_same}
 use Rattle.wrapper_meaning.proofs.RustValues.{out-case}
@@ -166,9 +165,8 @@ calls_enum : (w : Setting) (name : Bytes) (vs : List Val) → is_enum w.items na
 unfolding lift_name
 calls_enum w name vs h = member_lifted w name vs h
 
-quiet_lifted : (w : Setting) (name : Bytes) (to : CastType) (e : Expr) → bytes_eq name runtime_module_name ≡ false → is_operand e ≡ true → CallsNothing (eval w (case_lifted name to e))
-quiet_lifted w name to e typed ok =
-    quiet_call w (lift_path name) (expr.Cast e to ∷ []) (ap is_no_import (calls_lift name typed)) (quiet_one (eval w (expr.Cast e to)) (quiet_cast w e to (quiet_operand w e ok)))
+quiet_lifted : (w : Setting) (name : Bytes) (to : CastType) (e : Expr) → is_operand e ≡ true → CallsNothing (eval w (case_lifted name to e))
+quiet_lifted w name to e ok = expr_quiet w (case_lifted name to e) (lift_inward e ok name to)
 
 low_u16 : (z : ℤ) → is_of_kind wit.U16 (low 16 z) ≡ true
 low_u16 z = grind (arith, ints)
@@ -261,7 +259,7 @@ module _ (types : List TypeDef) (old new : FunctionBindgen) (n : Bytes) (id : Ty
   lifts_case : (members : List Member) → s.cases ≡ length members → Appends old new (stmt.Let n lifted ∷ []) [] → LiftsEnum func_meaning (bare members) (operand_of e ∷ []) (operand_of (expr.Local n) ∷ []) old new
   lifts_case members many a =
       subst (λ k. (x : Word) → LiftsAs members k x) (many ∙ sym (count_bare members))
-      (λ x. lets_served old new n lifted [] a fresh (λ w. quiet_lifted w name to e typed ok) (Unit {0}) (of (operand_of e) (word x) ∷ []) (λ p. reading_tag p.form s.cases x) (λ u. item (taken x)) (λ u fs. Outs members s.cases x fs)
+      (λ x. lets_served old new n lifted [] a fresh (λ w. quiet_lifted w name to e ok) (Unit {0}) (of (operand_of e) (word x) ∷ []) (λ p. reading_tag p.form s.cases x) (λ u. item (taken x)) (λ u fs. Outs members s.cases x fs)
       (λ u. (taken x, refl, λ c is. (((None, ap (λ k. value.Case k None) (sym is), case_stands members c)), case_normal (tag_of s.cases x))))
       (λ w p st serves h. agrees x w p st (defined w a.sites serves) h))
 
@@ -271,7 +269,7 @@ module _ (types : List TypeDef) (old new : FunctionBindgen) (n : Bytes) (id : Ty
       let told : emitted (context old) (sends (EnumLift id)) (e ∷ []) ≡ Some (one_local (codes "v") lifted []) =
       ap (option_and_then (lifts_enum e)) is_site.at ∙ ap (option_and_then (λ name. option_map (case_let name e) (case_cast s.repr))) root ∙ ap (option_map (case_let name e)) casts in
       record {
-        adds = let_adds old new n lifted [] a fresh (λ w. quiet_lifted w name to e typed ok);
+        adds = let_adds old new n lifted [] a fresh (λ w. quiet_lifted w name to e ok);
         blocks = ap reverse a.finished;
         returned = a.returned;
         asked = a.asked;

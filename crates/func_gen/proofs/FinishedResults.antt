@@ -10,13 +10,12 @@ use Rattle.wrapper_values.specs.declared.state.State.{State}
 use Rattle.wrapper_values.specs.declared.state.Val.{Val}
 use Rattle.wrapper_values.specs.declared.state.Val.TheVariants as val
 use Rattle.wrapper_values.specs.Act as machine
-use Rattle.wrapper_values.specs.Act.{◌>>=◌, pure}
 use Rattle.wrapper_values.specs.Locals.{usable}
 use Rattle.wrapper_values.specs.Owning.{owned, owned_by}
 use Rattle.wrapper_values.specs.Setting.{Setting}
 use Rattle.wrapper_run.specs.Run.{eval}
 use Rattle.wrapper_run.specs.Inward.{CallsNothing}
-use Rattle.wrapper_run.proofs.QuietActs.{quiet_pure, quiet_then}
+use Rattle.wrapper_run.proofs.QuietActs.{quiet_cons, quiet_pure}
 use Rattle.abi_bindgen.specs.Blocks.{owned_datum}
 use Rattle.abi_bindgen.specs.Laws.{Data, Facts, ofs}
 use Rattle.abi_bindgen.specs.Meaning.{Datum, item, word}
@@ -102,5 +101,4 @@ pub quiet_results : (w : Setting) (os : List ExprOperand) → are_operands os �
 quiet_results w [] h = quiet_pure []
 quiet_results w (o ∷ os) h =
     let two = and_parts (is_operand o.expr) (are_operands os) h in
-    quiet_then (eval w o.expr) (λ x. evaluated w os >>= (λ xs. pure (x ∷ xs))) (quiet_operand w o.expr two.0)
-    (λ x. quiet_then (evaluated w os) (λ xs. pure (x ∷ xs)) (quiet_results w os two.1) (λ xs. quiet_pure (x ∷ xs)))
+    quiet_cons (eval w o.expr) (map (λ (o : ExprOperand). eval w o.expr) os) (quiet_operand w o.expr two.0) (quiet_results w os two.1)

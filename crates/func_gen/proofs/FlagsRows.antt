@@ -2,7 +2,7 @@
 use Rattle.std.proofs.Common.{append-nil, ◌≡◌, ℕ, zero, suc, ◌+◌, ◌/◌, ◌%◌, ◌^◌, ◌<◌, ◌≤◌, true, cond, min, List, [], ◌∷◌, ◌++◌, length, map, reverse, Option, None, Some, refl, sym, ap, ◌∙◌, subst, arith}
 use Rattle.std.specs.Prelude.{option_and_then, codes}
 use Rattle.std.specs.Option.{option_map}
-use Rattle.std.proofs.lemmas.Bool.{and_parts, eq-eqb}
+use Rattle.std.proofs.lemmas.Bool.{eq-eqb}
 use Rattle.std.proofs.lemmas.List.{length-map, length-replicate}
 use Rattle.wit_layout.specs.Extent.{flag_words}
 use Rattle.wit_layout.specs.Flat.{words_of_flags}
@@ -42,10 +42,10 @@ use Rattle.wrapper_values.specs.Flags.{bits_of_level, flags_from, flags_in, flag
 use Rattle.wrapper_values.specs.Setting.{Setting, stuck}
 use Rattle.wrapper_values.proofs.FlagsLemmas.{words_from}
 use Rattle.wrapper_run.specs.Run.{eval, eval_step}
+use Rattle.wrapper_run.proofs.InwardCalls.{expr_quiet}
 use Rattle.wrapper_run.proofs.LocalLemmas.{reads-new}
 use Rattle.wrapper_run.proofs.StepLemmas.{Give}
 use Rattle.wrapper_run.specs.Inward.{CallsNothing}
-use Rattle.wrapper_run.proofs.QuietActs.{quiet_or_stop, quiet_pure, quiet_then}
 use Rattle.abi_bindgen.specs.declared.instruction.Instruction.TheVariants.{FlagsLift, FlagsLower}
 use Rattle.abi_bindgen.specs.Account.{stay}
 use Rattle.abi_bindgen.specs.FlagSets.{LiftsFlags, LowersFlags}
@@ -77,6 +77,7 @@ use Rattle.func_gen.proofs.Evaluated.{gives}
 use Rattle.func_gen.proofs.FieldOrder.{defined_as}
 use Rattle.func_gen.proofs.FlagsBits.{AreNarrow, are_narrow, bits_within, bits_words, joins, members_kept, members_said, numbers_in, words_typed}
 use Rattle.func_gen.proofs.Forming.{form_by, form_let}
+use Rattle.func_gen.proofs.InwardForms.{flags_inward}
 use Rattle.func_gen.proofs.Lasting.{add_plain, bound_under, denotes_on, lasts, owns_with, part, with_local, within_with}
 use Rattle.func_gen.proofs.LiftedRows.{says_one}
 use Rattle.func_gen.proofs.Quiet.{quiet_operand}
@@ -186,18 +187,8 @@ module _ (w : Setting) where
   eval-flags : (path : Path) (repr : Repr) (words : List (ℕ × Expr)) → eval w (expr.FlagsOfWords path repr words) ≡ flags_of_words w path repr (map (λ x. (x.0, eval w x.1)) words)
   eval-flags path repr words = ap (eval w) (sym (rolls-FlagsOfWords path repr words)) ∙ fold-roll-Expr (Act Val) (eval_step w) (Expr-F.FlagsOfWords path repr words)
 
-  quiet_acts : (by : ℕ) (os : List ExprOperand) → are_operands os ≡ true → CallsNothing (all (acts by (exprs_of os)))
-  quiet_acts by [] ok = quiet_pure []
-  quiet_acts by (o ∷ os) ok =
-      let two = and_parts (is_operand o.expr) (are_operands os) ok in
-      let act : Act (ℕ × Val) = eval w o.expr >>= (λ v. pure (by, v)) in
-      quiet_then act (λ x. all (acts (32 + by) (exprs_of os)) >>= (λ xs. pure (x ∷ xs))) (quiet_then (eval w o.expr) (λ v. pure (by, v)) (quiet_operand w o.expr two.0) (λ v. quiet_pure (by, v)))
-      (λ x. quiet_then (all (acts (32 + by) (exprs_of os))) (λ xs. pure (x ∷ xs)) (quiet_acts (32 + by) os two.1) (λ xs. quiet_pure (x ∷ xs)))
-
   quiet_flags : (s : FlagsSite) (os : List ExprOperand) → are_operands os ≡ true → CallsNothing (eval w (flags_made s (exprs_of os)))
-  quiet_flags s os ok =
-      let whole = λ (vs : List (ℕ × Val)). or_stop (stuck w) (flags_from w.items s.path s.repr vs) in
-      subst CallsNothing (sym (eval-flags s.path s.repr (shifted_from 0 (exprs_of os)))) (quiet_then (all (acts 0 (exprs_of os))) whole (quiet_acts 0 os ok) (λ vs. quiet_or_stop (stuck w) (flags_from w.items s.path s.repr vs)))
+  quiet_flags s os ok = expr_quiet w (flags_made s (exprs_of os)) (flags_inward os ok s)
 
   acts_give : (by : ℕ) (es : List Expr) (vs : List Val) (s : State) → Give w s es vs → all (acts by es) s ≡ machine.Done (shifted_vals by vs) s
   acts_give by [] [] s h = refl

@@ -1,7 +1,6 @@
 -- The row of operands that get locals of their own.
 use Rattle.std.proofs.Common.{◌≡◌, ℕ, ◌+◌, ◌<◌, ◌^◌, true, List, [], ◌∷◌, ◌++◌, length, reverse, Some, refl, sym, ap, ◌∙◌, subst, arith, false, map, suc, Option, None, Bool}
 use Rattle.std.specs.Prelude.{option_and_then}
-use Rattle.std.proofs.lemmas.Bool.{and_parts}
 use Rattle.wit_model.specs.Bytes.{Bytes}
 use Rattle.wit_model.specs.Distinct.{is_distinct}
 use Rattle.wit_model.specs.declared.types.TypeDef.{TypeDef}
@@ -15,14 +14,13 @@ use Rattle.wrapper_values.specs.declared.state.State.{State}
 use Rattle.wrapper_values.specs.declared.state.Val.{Val}
 use Rattle.wrapper_values.specs.declared.state.Val.TheVariants as val
 use Rattle.wrapper_values.specs.Act as machine
-use Rattle.wrapper_values.specs.Locals.{bind, usable}
+use Rattle.wrapper_values.specs.Locals.{usable}
 use Rattle.wrapper_values.specs.Owning.{owned}
 use Rattle.wrapper_values.specs.Setting.{Setting}
-use Rattle.wrapper_run.specs.Run.{eval, run_stmt, run_stmts}
+use Rattle.wrapper_run.specs.Run.{eval, run_stmts}
 use Rattle.wrapper_run.proofs.GiveSteps.{let_runs}
-use Rattle.wrapper_run.proofs.StmtSteps.{run-let}
+use Rattle.wrapper_run.proofs.InwardCalls.{stmts_quiet}
 use Rattle.wrapper_run.specs.Inward.{CallsNothing}
-use Rattle.wrapper_run.proofs.QuietActs.{quiet_bind, quiet_pure, quiet_then}
 use Rattle.abi_bindgen.specs.declared.instruction.Instruction.TheVariants.{Flush}
 use Rattle.abi_bindgen.specs.Account.{Account}
 use Rattle.abi_bindgen.specs.Calls.{Renames}
@@ -39,7 +37,6 @@ use Rattle.func_gen.specs.Facts.{AreOwned, Hold}
 use Rattle.func_gen.specs.FlushForms.{flush_prefix, lets_of, flushed}
 use Rattle.func_gen.specs.Forms.{local_kept}
 use Rattle.func_gen.specs.Meaning.{account_of, func_meaning, owns_of, seen, setting_for}
-use Rattle.func_gen.specs.Operand.{is_operand}
 use Rattle.func_gen.specs.PartForms.{are_operands, exprs_of, names_from}
 use Rattle.func_gen.specs.Read.{env_of, item_of, kept_value}
 use Rattle.func_gen.specs.Scope.{is_used, Takes}
@@ -48,12 +45,13 @@ use Rattle.func_gen.specs.Slot.{Slot}
 use Rattle.func_gen.proofs.CallRows.{split_used}
 use Rattle.func_gen.proofs.Evaluated.{gives}
 use Rattle.func_gen.proofs.Forming.{form_as}
+use Rattle.func_gen.proofs.InwardForms.{lets_inward}
 use Rattle.func_gen.proofs.Lasting.{area_same, bound_under, lasts, owns_with, part, with_local}
 use Rattle.func_gen.proofs.Moving.{uses}
+use Rattle.func_gen.proofs.OperandLists.{same_operands}
 use Rattle.func_gen.proofs.PartNames.{names_many, parts_distinct}
 use Rattle.func_gen.proofs.PartRows.{areas_last}
 use Rattle.func_gen.proofs.PartsTaken.{AllFree, all_free, using, using_params, using_used}
-use Rattle.func_gen.proofs.Quiet.{quiet_operand}
 use Rattle.func_gen.proofs.Rows.{same_area}
 use Rattle.func_gen.proofs.Several.{add_kept}
 use Rattle.func_gen.proofs.Steps.{func_adds, ran}
@@ -140,11 +138,7 @@ renamed w b (n ∷ ns) (o ∷ os) (d ∷ ds) others s free many len h =
     }
 
 quiet_lets : (w : Setting) (names : List Bytes) (os : List ExprOperand) → are_operands os ≡ true → CallsNothing (run_stmts w (lets_of names (exprs_of os)))
-quiet_lets w [] os h = quiet_pure tt
-quiet_lets w (n ∷ ns) [] h = quiet_pure tt
-quiet_lets w (n ∷ ns) (o ∷ os) h =
-    let two = and_parts (is_operand o.expr) (are_operands os) h in
-    quiet_then (run_stmt w (stmt.Let n o.expr)) (λ u. run_stmts w (lets_of ns (exprs_of os))) (subst CallsNothing (sym (run-let w n o.expr)) (quiet_then (eval w o.expr) (bind n) (quiet_operand w o.expr two.0) (λ v. quiet_bind n v))) (λ u. quiet_lets w ns os two.1)
+quiet_lets w names os ok = stmts_quiet w (lets_of names (exprs_of os)) (lets_inward names (exprs_of os) (same_operands os ∙ ok))
 
 -- 3. The row
 

@@ -17,11 +17,8 @@ use Rattle.wrapper_values.specs.Setting.{Setting}
 use Rattle.wrapper_run.specs.Blocks.{drop_value, release, release_all, release_found}
 use Rattle.wrapper_run.specs.Memory.{block_from}
 use Rattle.wrapper_run.specs.Run.{call, call_callee, callee, core_forget, eval, is_core_forget, run_stmts}
-use Rattle.wrapper_run.proofs.QuietSteps.{quiet_expr, quiet_forget, quiet_local}
 use Rattle.wrapper_run.proofs.StepLemmas.{eval-call}
 use Rattle.wrapper_run.proofs.StmtSteps.{runs-expr}
-use Rattle.wrapper_run.specs.Inward.{CallsNothing}
-use Rattle.wrapper_run.proofs.QuietActs.{quiet_pure}
 use Rattle.abi_bindgen.specs.Account.{Account, Done, Got, Outcome, Stopped, Stuck, releasing, without}
 use Rattle.func_gen.specs.Facts.{AreOwned, IsThere}
 use Rattle.func_gen.specs.Meaning.{account_of}
@@ -121,6 +118,3 @@ one_called w path e v s t h = ap (λ act. act s) (eval-call w path (e ∷ [])) �
 pub forget_runs : (w : Setting) (name : Bytes) (v : Val) (s t : State) → eval w (expr.Local name) s ≡ machine.Done v t → run_stmts w (stmt.Expr (forgotten name) ∷ []) s ≡ release_all w (owned v) t
 forget_runs w name v s t h =
     runs-expr w (forgotten name) [] s ∙ ap (λ o. and_then (and_then o (drop_value w)) (λ u. pure tt)) (one_called w forget_path (expr.Local name) v s t h ∙ ap (λ k. call_callee w k (v ∷ []) t) calls_forget) ∙ dropped w (release_all w (owned v) t)
-
-pub quiet_forgotten : (w : Setting) (name : Bytes) → CallsNothing (run_stmts w (stmt.Expr (forgotten name) ∷ []))
-quiet_forgotten w name = quiet_expr w (forgotten name) [] (quiet_forget w forget_path (expr.Local name) calls_forget (quiet_local w name)) (quiet_pure tt)

@@ -1,6 +1,6 @@
 -- The rows of texts and of blocks that are freed.
 use Rattle.std.proofs.Common.{◌≡◌, ℕ, zero, suc, ◌-◌, ◌^◌, Bool, true, false, cond, nat_eq, nat_lt, ◌&&◌, if◌then◌else◌, List, [], ◌∷◌, reverse, Option, None, Some, refl, sym, ap, ◌∙◌, subst, arith}
-use Rattle.std.proofs.lemmas.Bool.{and_parts, or_parts}
+use Rattle.std.proofs.lemmas.Bool.{and_from, and_parts, or_parts}
 use Rattle.std.proofs.lemmas.Bool.Decides.{nat_tests}
 use Rattle.wit_model.specs.Size.{bytes_at}
 use Rattle.wit_model.specs.declared.size.Alignment.{Alignment}
@@ -28,13 +28,11 @@ use Rattle.wrapper_run.specs.Blocks.{dealloc, drop_value, free_all, free_bytes, 
 use Rattle.wrapper_run.specs.Memory.{begins_at, block_at, block_from, is_at, without}
 use Rattle.wrapper_run.specs.Run.{apply, call, call_callee, call_runtime, eval, run_stmts, runtime_item_named}
 use Rattle.wrapper_run.proofs.OwningLemmas.{owned-unit}
-use Rattle.wrapper_run.proofs.QuietSteps.{quiet_expr}
 use Rattle.wrapper_run.proofs.StmtSteps.{runs-expr}
 use Rattle.wrapper_run.proofs.StepLemmas.{call_gives}
 use Rattle.wrapper_run.proofs.FreeSteps.{eval-size, one_byte}
-use Rattle.wrapper_run.specs.Inward.{CallsNothing, is_no_import}
-use Rattle.wrapper_run.proofs.QuietSteps.{quiet_call}
-use Rattle.wrapper_run.proofs.QuietActs.{quiet_cons, quiet_one, quiet_pure}
+use Rattle.wrapper_run.proofs.InwardCalls.{stmts_quiet}
+use Rattle.wrapper_run.specs.Inward.{CallsNothing, is_inward_expr}
 use Rattle.abi_bindgen.specs.declared.instruction.Instruction.TheVariants.{GuestDeallocate, GuestDeallocateString}
 use Rattle.abi_bindgen.specs.Account.{failing}
 use Rattle.abi_bindgen.specs.Instructions.{Emits}
@@ -49,9 +47,9 @@ use Rattle.func_gen.specs.Meaning.{account_of, func_meaning, setting_for}
 use Rattle.func_gen.specs.MemoryForms.{align_size, block_freed, bytes_freed, is_length, text_freed}
 use Rattle.func_gen.specs.Operand.{is_operand}
 use Rattle.func_gen.proofs.Forming.{form_effect}
+use Rattle.func_gen.proofs.InwardForms.{expr_inward, one_inward, operand_inward, runtime_inward, size_inward}
 use Rattle.func_gen.proofs.LoadRows.{address_given}
 use Rattle.func_gen.proofs.MemoryTies.{without_is}
-use Rattle.func_gen.proofs.Quiet.{quiet_operand}
 use Rattle.func_gen.proofs.ScalarRows.{calls_runtime}
 use Rattle.func_gen.proofs.StoreRows.{two_given}
 use Rattle.func_gen.proofs.Writing.{Writes, one_adds, with_heap, writes}
@@ -61,15 +59,6 @@ use Rattle.func_gen.proofs.Writing.{Writes, one_adds, with_heap, writes}
 -- a size that is a length
 size_is : (w : Setting) (size : ArchitectureSize) → is_length size ≡ true → eval w (expr.Size size) ≡ pure (val.Word (core.Length (bytes_at size 4)))
 size_is w size h = eval-size w size ∙ ap (λ b. or_stop (stuck w) (cond b (Some (val.Word (core.Length (bytes_at size 4)))) None)) h
-
-quiet_size : (w : Setting) (size : ArchitectureSize) → is_length size ≡ true → CallsNothing (eval w (expr.Size size))
-quiet_size w size h = subst CallsNothing (sym (size_is w size h)) (quiet_pure (val.Word (core.Length (bytes_at size 4))))
-
-quiet_freed : (w : Setting) (e f : Expr) (align : ArchitectureSize) → is_length align ≡ true → CallsNothing (eval w e) → CallsNothing (eval w f) → CallsNothing (eval w (bytes_freed e f align))
-quiet_freed w e f align aligned q r =
-    let size = expr.Size align in
-    quiet_call w (runtime_path CabiDealloc) (e ∷ f ∷ size ∷ []) (ap is_no_import (calls_runtime CabiDealloc))
-    (quiet_cons (eval w e) (eval w f ∷ eval w size ∷ []) q (quiet_cons (eval w f) (eval w size ∷ []) r (quiet_one (eval w size) (quiet_size w align aligned))))
 
 -- 2. What it does
 
@@ -147,12 +136,15 @@ module _ (w : Setting) (s : State) where
 -- 5. The rows
 
 module _ (types : List TypeDef) (old new : FunctionBindgen) (e : Expr) (ok : is_operand e ≡ true) (scope : new.scope ≡ old.scope) where
-  quiet_free : (f : Expr) (align : ArchitectureSize) → is_length align ≡ true → ((w : Setting) → CallsNothing (eval w f)) → (w : Setting) → CallsNothing (run_stmts w (stmt.Expr (bytes_freed e f align) ∷ []))
-  quiet_free f align aligned quiet w = quiet_expr w (bytes_freed e f align) [] (quiet_freed w e f align aligned (quiet_operand w e ok) (quiet w)) (quiet_pure tt)
+  quiet_free : (f : Expr) (align : ArchitectureSize) → is_inward_expr f ≡ true → (w : Setting) → CallsNothing (run_stmts w (stmt.Expr (bytes_freed e f align) ∷ []))
+  quiet_free f align inward w =
+      let size = one_inward (expr.Size align) (size_inward align) in
+      let all = and_from (is_inward_expr e) _ (operand_inward e ok) (and_from (is_inward_expr f) _ inward size) in
+      stmts_quiet w (stmt.Expr (bytes_freed e f align) ∷ []) (expr_inward (bytes_freed e f align) (runtime_inward CabiDealloc (e ∷ f ∷ expr.Size align ∷ []) all))
 
   pub free_row : (f : Expr) → is_operand f ≡ true → Appends old new (stmt.Expr (text_freed e f) ∷ []) (CabiDealloc ∷ []) → Emits func_meaning types GuestDeallocateString (operand_of e ∷ operand_of f ∷ []) [] old new
   free_row f ok_f a =
-      let quiet = quiet_free f one_byte refl (λ w. quiet_operand w f ok_f) in
+      let quiet = quiet_free f one_byte (operand_inward f ok_f) in
       let adds = one_adds old new (stmt.Expr (text_freed e f)) (CabiDealloc ∷ []) a scope quiet in
       record {
         adds = adds;
@@ -172,7 +164,7 @@ module _ (types : List TypeDef) (old new : FunctionBindgen) (e : Expr) (ok : is_
       → Emits func_meaning types (GuestDeallocate size align) (operand_of e ∷ []) [] old new
   block_row size align sized aligned a =
       let n = bytes_at size 4 in
-      let quiet = quiet_free (expr.Size size) (align_size align) aligned (λ w. quiet_size w size sized) in
+      let quiet = quiet_free (expr.Size size) (align_size align) (size_inward size) in
       let adds = one_adds old new (stmt.Expr (block_freed e size align)) (CabiDealloc ∷ []) a scope quiet in
       record {
         adds = adds;

@@ -69,7 +69,6 @@ pub mod Moves
 pub mod Moving
 pub mod NameRows
 pub mod Narrowed
-pub mod NumberQuiet
 pub mod NumberRows
 pub mod NumberedArms
 pub mod Opening

@@ -43,7 +43,7 @@ use Rattle.func_gen.proofs.CallRows.{split_used}
 use Rattle.func_gen.proofs.Lasting.{still_free}
 use Rattle.func_gen.proofs.LiftedCaseRows.{AreCases}
 use Rattle.func_gen.proofs.LiftedMatches.{frees_case, lifts_case, lifts_variant}
-use Rattle.func_gen.proofs.NumberQuiet.{quiet_numbers}
+use Rattle.func_gen.proofs.CaseQuiet.{quiet_numbers}
 
 -- 1. How many there are
 
@@ -75,7 +75,7 @@ module _ (types : List TypeDef) (id : TypeId) (forms : List CaseForm) (e : Expr)
   code = stmt.Match (names_of.One v) e (number_arms 0 (lifted_bodies forms (reverse l.used)) (arm_of arm_by.AnyOther invalid_body)) ∷ []
 
   quiet : (w : Setting) → CallsNothing (run_stmts w code)
-  quiet = λ w. quiet_numbers w (names_of.One v) e (lifted_bodies forms (reverse l.used)) arm_by.AnyOther invalid_body ok tt l.inward l.inward_last
+  quiet = λ w. quiet_numbers w (names_of.One v) e (lifted_bodies forms (reverse l.used)) arm_by.AnyOther invalid_body ok l.inward l.inward_last
 
   used_many : length (payload_counts (payloads_at types id.0)) ≡ length forms
   used_many = counts_many (payloads_at types id.0) ∙ many
@@ -113,7 +113,7 @@ module _ (types : List TypeDef) (id : TypeId) (forms : List CaseForm) (c : CaseF
   code_last = stmt.Match (names_of.One v) e (number_arms 0 (lifted_bodies forms l.first) (arm_of (arm_by.Name n) (last_body n (length forms) c l.last))) ∷ []
 
   quiet_last : (w : Setting) → CallsNothing (run_stmts w code_last)
-  quiet_last = λ w. quiet_numbers w (names_of.One v) e (lifted_bodies forms l.first) (arm_by.Name n) (last_body n (length forms) c l.last) ok tt l.inward l.inward_last
+  quiet_last = λ w. quiet_numbers w (names_of.One v) e (lifted_bodies forms l.first) (arm_by.Name n) (last_body n (length forms) c l.last) ok l.inward l.inward_last
 
   counted : length (payload_counts (payloads_at types id.0)) ≡ suc (length forms)
   counted = counts_many (payloads_at types id.0) ∙ many
@@ -139,7 +139,7 @@ module _ (types : List TypeDef) (k : ℕ) (e : Expr) (old new : FunctionBindgen)
   code_free = stmt.Match names_of.Nothing e (number_arms 0 (map freed_body l.first) (arm_of arm_by.AnyOther (freed_body l.last))) ∷ []
 
   quiet_free : (w : Setting) → CallsNothing (run_stmts w code_free)
-  quiet_free = λ w. quiet_numbers w names_of.Nothing e (map freed_body l.first) arm_by.AnyOther (freed_body l.last) ok tt l.inward l.inward_last
+  quiet_free = λ w. quiet_numbers w names_of.Nothing e (map freed_body l.first) arm_by.AnyOther (freed_body l.last) ok l.inward l.inward_last
 
   replicated : length {A = ℕ} (replicate (suc k) 0) ≡ suc k
   replicated = length-replicate (suc k) 0

@@ -39,8 +39,8 @@ use Rattle.wrapper_values.specs.Effect.{bit, bool_of_number, cast_integer, char_
 use Rattle.wrapper_values.specs.Owning.{owned}
 use Rattle.wrapper_values.specs.Setting.{Setting}
 use Rattle.wrapper_run.specs.Run.{apply, call_callee, call_runtime, converted_or_lifted, eval, lift_act, runtime_item_named}
+use Rattle.wrapper_run.proofs.InwardCalls.{expr_quiet}
 use Rattle.wrapper_run.proofs.NumberLemmas.{not-converted, num_of-number, word_of-bool}
-use Rattle.wrapper_run.proofs.QuietSteps.{quiet_cast, quiet_bool, quiet_runtime}
 use Rattle.wrapper_run.proofs.StepLemmas.{bool_gives, call_gives}
 use Rattle.wrapper_run.specs.Inward.{CallsNothing}
 use Rattle.abi_bindgen.specs.declared.instruction.Instruction.TheVariants.{BoolFromI32, CharFromI32, I32FromBool}
@@ -61,7 +61,7 @@ use Rattle.abi_bindgen.specs.Sent.{sends}
 use Rattle.func_gen.proofs.Evaluated.{gives}
 use Rattle.func_gen.specs.FactLemmas.{Says, is_said}
 use Rattle.func_gen.proofs.Forming.{IsPlain, form_let}
-use Rattle.func_gen.proofs.Quiet.{quiet_operand}
+use Rattle.func_gen.proofs.InwardForms.{bool_inward, lifted_inward}
 use Rattle.func_gen.proofs.Rows.{Agrees, let_adds, lets}
 use Rattle.func_gen.proofs.ScalarRows.{calls_runtime, cast_says, emits_lifted, emits_lowered}
 use Rattle.func_gen.proofs.Scalars.{stands_scalar}
@@ -88,7 +88,7 @@ pub bool_row : (types : List TypeDef) (old new : FunctionBindgen) (n : Bytes) (e
     → Emits func_meaning types I32FromBool (operand_of e ∷ []) (operand_of (expr.Local n) ∷ []) old new
 bool_row types old new n e ok a fresh one =
     let plain : IsPlain (sends I32FromBool) = record { gives = refl; calls = refl } in
-    let quiet : (w : Setting) → CallsNothing (eval w (expr.I32FromBool e)) = λ w. quiet_bool w e (quiet_operand w e ok) in
+    let quiet : (w : Setting) → CallsNothing (eval w (expr.I32FromBool e)) = λ w. expr_quiet w (expr.I32FromBool e) (bool_inward e ok) in
     emits_lowered types old new I32FromBool Scalar.bool (operand_of e) (operand_of (expr.Local n)) refl (let_adds old new n (expr.I32FromBool e) [] a fresh quiet) a.returned
     (form_let (sends I32FromBool) plain (operand_of e ∷ []) old new (codes "b") n (expr.I32FromBool e) [] refl one a)
     (λ dir v r own good st. (
@@ -182,7 +182,7 @@ char_stands x v (z, e, h) = ap char_taken e ∙ ap value.Char (sym h)
 
 module _ (types : List TypeDef) (old new : FunctionBindgen) (n : Bytes) (e : Expr) (ok : is_operand e ≡ true) (fresh : Fresh old new n) where
   lifts_quietly : (i : RuntimeItem) (to : CastType) (w : Setting) → CallsNothing (eval w (runtime_call i (expr.Cast e to)))
-  lifts_quietly i to w = quiet_runtime w (runtime_path i) (item_name i) (expr.Cast e to) (calls_runtime i) (quiet_cast w e to (quiet_operand w e ok))
+  lifts_quietly i to w = expr_quiet w (runtime_call i (expr.Cast e to)) (lifted_inward e ok i to)
 
   abbrev Outs : (s : Scalar) → Word → Facts func_meaning → Type 0
   Outs s x fs = (r : RustValue) × (fs ≡ of (operand_of (expr.Local n)) (item r) ∷ []) × ((v : ScalarValue s) → IsScalar s v → IsTaken s v x → StandsAsItIs take (scalar s) v r [])

@@ -31,7 +31,7 @@ use Rattle.wrapper_run.specs.Memory.{bytes_of_small, bytes_of_type, loaded, load
 use Rattle.wrapper_run.specs.Memory as memory
 use Rattle.wrapper_run.specs.Run.{eval, load_small, load_word}
 use Rattle.wrapper_run.specs.Inward.{CallsNothing}
-use Rattle.wrapper_run.proofs.QuietActs.{quiet_or_stop, quiet_then}
+use Rattle.wrapper_run.proofs.InwardCalls.{expr_quiet}
 use Rattle.abi_bindgen.specs.declared.instruction.Instruction.{Instruction}
 use Rattle.abi_bindgen.specs.declared.instruction.Instruction.TheVariants.{F32Load, F64Load, I32Load, I32Load16S, I32Load16U, I32Load8S, I32Load8U, I64Load, LengthLoad, PointerLoad}
 use Rattle.abi_bindgen.specs.Account.{Got, Outcome, Stuck, failing, gives as law_gives}
@@ -55,8 +55,8 @@ use Rattle.func_gen.specs.Scope.{TakesOne}
 use Rattle.func_gen.proofs.Emissions.{small_load_emitted, whole_load_emitted}
 use Rattle.func_gen.proofs.Evaluated.{gives}
 use Rattle.func_gen.proofs.Forming.{form_let, touches_plain}
+use Rattle.func_gen.proofs.InwardForms.{load_inward, load_small_inward}
 use Rattle.func_gen.proofs.LoadTies.{HasLength, Reads, byte_read, f32_read, f64_read, half_read, i32_read, i64_read, length_read, many_at, pointer_read, same_found, signed_byte_read, signed_half_read, small_from}
-use Rattle.func_gen.proofs.Quiet.{quiet_operand}
 use Rattle.func_gen.proofs.PlainOperands.{reads_plainly, touches_plainly}
 use Rattle.func_gen.proofs.Rows.{AgreesBy, let_adds, lets_by}
 use Rattle.func_gen.proofs.StoreRows.{emits_touch}
@@ -68,14 +68,6 @@ eval-load w e o ty = search (rules, the_lemmas)
 
 eval-load_small : (w : Setting) (e : Expr) (o : ArchitectureSize) (ty : SmallType) → eval w (expr.LoadSmall e o ty) ≡ (eval w e >>= load_small w o ty)
 eval-load_small w e o ty = search (rules, the_lemmas)
-
-quiet_load_word : (w : Setting) (o : ArchitectureSize) (ty : WasmType) (v : Val) → CallsNothing (load_word w o ty v)
-quiet_load_word w o ty (val.Word (core.Pointer address)) = record { quiet = λ s. (quiet_or_stop (failed w trap.Pointer) (option_map val.Word (loaded ty (address + bytes_at o 4) s.heap.blocks))).quiet s }
-quiet_load_word w o ty _ = record { quiet = λ s. refl }
-
-quiet_load_small : (w : Setting) (o : ArchitectureSize) (ty : SmallType) (v : Val) → CallsNothing (load_small w o ty v)
-quiet_load_small w o ty (val.Word (core.Pointer address)) = record { quiet = λ s. (quiet_or_stop (failed w trap.Pointer) (option_map val.Word (loaded_small ty (address + bytes_at o 4) s.heap.blocks))).quiet s }
-quiet_load_small w o ty _ = record { quiet = λ s. refl }
 
 -- the bytes at an aligned address are read as a word, where there are so many; and there is a trap else
 abbrev reads_there : Setting → (k address : ℕ) → (List ℕ → Word) → Act Val
@@ -151,10 +143,10 @@ module _ (old new : FunctionBindgen) (n : Bytes) (e : Expr) (ok : is_operand e �
         (λ x fs. fs ≡ of (operand_of (expr.Local n)) (word x) ∷ []) (λ x. refl) (λ w p s found h. follows (setting_for w p) p.form address s refl h)
 
   quiet_whole : (ty : WasmType) (w : Setting) → CallsNothing (eval w (expr.Load e o ty))
-  quiet_whole ty w = subst CallsNothing (sym (eval-load w e o ty)) (quiet_then (eval w e) (load_word w o ty) (quiet_operand w e ok) (quiet_load_word w o ty))
+  quiet_whole ty w = expr_quiet w (expr.Load e o ty) (load_inward e ok o ty)
 
   quiet_small : (ty : SmallType) (w : Setting) → CallsNothing (eval w (expr.LoadSmall e o ty))
-  quiet_small ty w = subst CallsNothing (sym (eval-load_small w e o ty)) (quiet_then (eval w e) (load_small w o ty) (quiet_operand w e ok) (quiet_load_small w o ty))
+  quiet_small ty w = expr_quiet w (expr.LoadSmall e o ty) (load_small_inward e ok o ty)
 
   whole_follows : (ty : WasmType) (a : Access) → 2 ^ a.grain ≡ bytes_of_type ty → Reads a (bytes_of_type ty) (word_from ty) → Follows a (expr.Load e o ty)
   whole_follows ty a size tie w f address s same h =

@@ -5,15 +5,11 @@ use Rattle.std.specs.Str.{bytes_eq}
 use Rattle.std.proofs.lemmas.Bool.{and_parts}
 use Rattle.std.proofs.lemmas.Slice.Eq.{bytes_eq-Decides}
 use Rattle.wit_model.specs.Bytes.{Bytes}
-use Rattle.rust_tree.specs.declared.expr.Expr.TheVariants as expr
 use Rattle.rust_tree.specs.declared.path.Path.{Path}
-use Rattle.wrapper_data.specs.declared.word.Word.TheVariants as word
 use Rattle.wrapper_values.specs.declared.core_words.CoreFn.{CoreFn}
 use Rattle.wrapper_values.specs.declared.core_words.CoreFn.TheVariants as core_fn
-use Rattle.wrapper_values.specs.declared.owning.View.TheVariants as view_of
-use Rattle.wrapper_values.specs.declared.state.Val.TheVariants as val
 use Rattle.wrapper_values.specs.Variants.{number_in_core}
-use Rattle.wrapper_run.specs.Run.{call, callee, case_callee, core_function, is_f32_from_bits, is_f64_from_bits, is_i64_from, member_callee, of_runtime, path_callee, runtime_module_name}
+use Rattle.wrapper_run.specs.Run.{callee, case_callee, core_function, is_f32_from_bits, is_f64_from_bits, is_i64_from, member_callee, of_runtime, path_callee, runtime_module_name}
 use Rattle.func_gen.specs.Operand.{is_conversion, is_conversion_of, is_converting, is_core_function, is_core_function_of}
 
 -- a conversion is a function of `_rt`

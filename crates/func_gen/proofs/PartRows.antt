@@ -3,7 +3,6 @@ use Rattle.std.proofs.Common.{◌≡◌, ℕ, suc, Bool, true, false, List, [], 
 use Rattle.std.specs.List.{flat_map}
 use Rattle.std.specs.Prelude.{option_and_then, codes}
 use Rattle.std.specs.Option.{option_map}
-use Rattle.std.proofs.lemmas.Bool.{and_parts}
 use Rattle.wit_layout.specs.Tree.{Scalar}
 use Rattle.wit_model.specs.Bytes.{Bytes}
 use Rattle.wit_model.specs.declared.types.TypeDef.{TypeDef}
@@ -16,7 +15,7 @@ use Rattle.wrapper_data.specs.declared.value.RustValue.{RustValue, fold-RustValu
 use Rattle.wrapper_data.specs.declared.value.RustValue.TheVariants as value
 use Rattle.wrapper_data.specs.declared.word.Word.{Word}
 use Rattle.wrapper_data.specs.declared.word.Word.TheVariants as core
-use Rattle.wrapper_meaning.specs.Direction.{Direction, give, take}
+use Rattle.wrapper_meaning.specs.Direction.{Direction, take}
 use Rattle.wrapper_meaning.specs.Items.{total}
 use Rattle.wrapper_meaning.specs.Shape.{Shapes}
 use Rattle.wrapper_meaning.specs.Shape.Shapes.{none, more}
@@ -27,16 +26,16 @@ use Rattle.wrapper_values.specs.declared.state.State.{State}
 use Rattle.wrapper_values.specs.declared.state.Val.{Val}
 use Rattle.wrapper_values.specs.declared.state.Val.TheVariants as val
 use Rattle.wrapper_values.specs.Act as machine
-use Rattle.wrapper_values.specs.Act.{◌>>=◌, all, and_then, or_stop, pure}
+use Rattle.wrapper_values.specs.Act.{all, and_then, or_stop}
 use Rattle.wrapper_values.specs.Effect.{rust_of, rust_of_word}
 use Rattle.wrapper_values.specs.Owning.{owned, owned_by, taken_by}
 use Rattle.wrapper_values.specs.Setting.{Setting, stuck}
 use Rattle.wrapper_values.specs.Whole.{rust_values, whole_of}
 use Rattle.wrapper_run.specs.Run.{eval, run_stmts}
 use Rattle.wrapper_run.proofs.GiveSteps.{let_runs}
+use Rattle.wrapper_run.proofs.InwardCalls.{expr_quiet}
 use Rattle.wrapper_run.proofs.PartSteps.{eval-tuple}
 use Rattle.wrapper_run.specs.Inward.{CallsNothing}
-use Rattle.wrapper_run.proofs.QuietActs.{quiet_or_stop, quiet_pure, quiet_then}
 use Rattle.abi_bindgen.specs.declared.bindgen.Asked.{Asked}
 use Rattle.abi_bindgen.specs.declared.instruction.Instruction.TheVariants.{TupleLift}
 use Rattle.abi_bindgen.specs.Account.{Account, Peer}
@@ -52,14 +51,14 @@ use Rattle.func_gen.specs.Facts.{AreOwned}
 use Rattle.func_gen.specs.Forms.{operand_of}
 use Rattle.func_gen.specs.Meaning.{AreaIs, File, IsNormal, Serves, func_meaning, owns_of, passing_level, seen, setting_for}
 use Rattle.func_gen.specs.NormalLemmas.{normal_struct}
-use Rattle.func_gen.specs.Operand.{is_operand}
 use Rattle.func_gen.specs.PartForms.{are_operands, exprs_of}
 use Rattle.func_gen.specs.Read.{env_of}
 use Rattle.func_gen.specs.StandLemmas.{owned-struct, scalar_owns}
 use Rattle.func_gen.specs.Scope.{TakesOne}
 use Rattle.func_gen.proofs.Forming.{form_let}
+use Rattle.func_gen.proofs.InwardForms.{tuple_inward}
 use Rattle.func_gen.proofs.Lasting.{area_same, bound_under, owns_with, with_local}
-use Rattle.func_gen.proofs.Quiet.{quiet_operand}
+use Rattle.func_gen.proofs.OperandLists.{same_operands}
 use Rattle.func_gen.proofs.Rows.{let_adds, same_area}
 use Rattle.func_gen.proofs.Several.{Are, add_local, uses_all}
 use Rattle.func_gen.proofs.Steps.{ran}
@@ -112,16 +111,8 @@ whole_stands ts v rs own h = let both = parts_stand take ts v rs own h in ((rs, 
 
 -- 2. A tuple makes no call
 
-quiet_all : (w : Setting) (os : List ExprOperand) → are_operands os ≡ true → CallsNothing (all (map (eval w) (exprs_of os)))
-quiet_all w [] h = quiet_pure []
-quiet_all w (o ∷ os) h =
-    let two = and_parts (is_operand o.expr) (are_operands os) h in
-    quiet_then (eval w o.expr) (λ x. all (map (eval w) (exprs_of os)) >>= (λ xs. pure (x ∷ xs))) (quiet_operand w o.expr two.0)
-    (λ x. quiet_then (all (map (eval w) (exprs_of os))) (λ xs. pure (x ∷ xs)) (quiet_all w os two.1) (λ xs. quiet_pure (x ∷ xs)))
-
 quiet_tuple : (os : List ExprOperand) → are_operands os ≡ true → (w : Setting) → CallsNothing (eval w (expr.Tuple (exprs_of os)))
-quiet_tuple os h w =
-    subst CallsNothing (sym (eval-tuple w (exprs_of os))) (quiet_then (all (map (eval w) (exprs_of os))) (λ vs. or_stop (stuck w) (whole_of vs)) (quiet_all w os h) (λ vs. quiet_or_stop (stuck w) (whole_of vs)))
+quiet_tuple os ok w = expr_quiet w (expr.Tuple (exprs_of os)) (tuple_inward (exprs_of os) (same_operands os ∙ ok))
 
 -- 3. What it gives
 

@@ -34,19 +34,18 @@ use Rattle.wrapper_values.specs.declared.state.State.{State}
 use Rattle.wrapper_values.specs.declared.state.Val.{Val}
 use Rattle.wrapper_values.specs.declared.state.Val.TheVariants as val
 use Rattle.wrapper_values.specs.Act as machine
-use Rattle.wrapper_values.specs.Act.{◌>>=◌, and_then, or_stop, pure}
+use Rattle.wrapper_values.specs.Act.{and_then, pure}
 use Rattle.wrapper_values.specs.Effect.{rust_of, rust_of_word}
 use Rattle.std.specs.Option.{option_or}
+use Rattle.wrapper_run.proofs.InwardCalls.{stmts_quiet}
 use Rattle.wrapper_run.proofs.LocalLemmas.{bytes_eq-same, last-append}
-use Rattle.wrapper_values.specs.Locals.{bind, local_named}
+use Rattle.wrapper_values.specs.Locals.{local_named}
 use Rattle.wrapper_values.specs.Owning.{owned, owned_by, owned_in, taken_by}
-use Rattle.wrapper_values.specs.Setting.{Setting, stuck}
-use Rattle.wrapper_values.specs.Whole.{bind_parts, given_names, parts_of, parts_of_level, take_apart}
-use Rattle.wrapper_run.specs.Run.{eval, run_stmt, run_stmts}
+use Rattle.wrapper_values.specs.Setting.{Setting}
+use Rattle.wrapper_values.specs.Whole.{given_names, parts_of, parts_of_level}
+use Rattle.wrapper_run.specs.Run.{run_stmts}
 use Rattle.wrapper_run.proofs.PartSteps.{AsMany, part_locals, parts-whole, takes_apart}
-use Rattle.wrapper_run.proofs.StmtSteps.{run-parts}
 use Rattle.wrapper_run.specs.Inward.{CallsNothing}
-use Rattle.wrapper_run.proofs.QuietActs.{quiet_bind, quiet_or_stop, quiet_pure, quiet_then}
 use Rattle.abi_bindgen.specs.Laws.{Adds, Stays, item_data, ofs}
 use Rattle.abi_bindgen.specs.Meaning.{Fact, item, of}
 use Rattle.abi_bindgen.specs.Parts.{PartsStand, count}
@@ -66,7 +65,6 @@ use Rattle.func_gen.specs.Slot.{Slot}
 use Rattle.func_gen.proofs.CallRows.{split_used}
 use Rattle.func_gen.proofs.Lasting.{area_same, bound_under, lasts, part, with_local}
 use Rattle.func_gen.proofs.Moving.{uses}
-use Rattle.func_gen.proofs.Quiet.{quiet_operand}
 use Rattle.func_gen.proofs.Rows.{same_area}
 use Rattle.func_gen.proofs.Steps.{func_adds, ran}
 use Rattle.abi_bindgen.specs.Account.{Account}
@@ -75,6 +73,7 @@ use Rattle.func_gen.proofs.PartRows.{areas_last}
 use Rattle.func_gen.proofs.Several.{add_local}
 use Rattle.wrapper_meaning.proofs.PostReturn.{total-append}
 use Rattle.func_gen.proofs.Declared.{unused_with}
+use Rattle.func_gen.proofs.InwardForms.{apart_inward, operand_inward}
 
 -- 1. New locals, one after the other
 
@@ -153,20 +152,8 @@ parts_many dir (more t ts) v rs own (r, others, first, rest, is, h, hs, all) = a
 
 -- 3. It makes no call
 
-quiet_parts : (w : Setting) (names : List Bytes) (rs : List RustValue) → CallsNothing (bind_parts w names rs)
-quiet_parts w [] [] = quiet_pure tt
-quiet_parts w [] (r ∷ rs) = record { quiet = λ s. refl }
-quiet_parts w (n ∷ ns) [] = record { quiet = λ s. refl }
-quiet_parts w (n ∷ ns) (r ∷ rs) = quiet_then (bind n (val.Value r)) (λ u. bind_parts w ns rs) (quiet_bind n (val.Value r)) (λ u. quiet_parts w ns rs)
-
-quiet_apart : (w : Setting) (p : Pattern) (e : Expr) → CallsNothing (eval w e) → CallsNothing (run_stmts w (stmt.LetParts p e ∷ []))
-quiet_apart w p e h =
-    quiet_then (run_stmt w (stmt.LetParts p e)) (λ u. pure tt)
-    (subst CallsNothing (sym (run-parts w p e))
-    (quiet_then (eval w e) (take_apart w p) h
-    (λ v. quiet_then (or_stop (stuck w) (parts_of v)) (λ rs. or_stop (stuck w) (given_names w.items p) >>= (λ names. bind_parts w names rs)) (quiet_or_stop (stuck w) (parts_of v))
-    (λ rs. quiet_then (or_stop (stuck w) (given_names w.items p)) (λ names. bind_parts w names rs) (quiet_or_stop (stuck w) (given_names w.items p)) (λ names. quiet_parts w names rs)))))
-    (λ u. quiet_pure tt)
+quiet_apart : (w : Setting) (p : Pattern) (e : Expr) → is_operand e ≡ true → CallsNothing (run_stmts w (stmt.LetParts p e ∷ []))
+quiet_apart w p e ok = stmts_quiet w (stmt.LetParts p e ∷ []) (apart_inward e (operand_inward e ok) p)
 
 -- 4. It is the value with these parts
 
@@ -247,7 +234,7 @@ locals_many (n ∷ ns) = ap suc (locals_many ns)
 module _ (old new : FunctionBindgen) (pat : Pattern) (names : List Bytes) (e : Expr) (a : Appends old new (stmt.LetParts pat e ∷ []) []) (fresh : FreshAll old new names)
     (fits : (w : File) → Serves w new → (given_names w.items pat ≡ Some names) × (is_distinct names ≡ true)) where
   pub apart_adds : is_operand e ≡ true → Adds func_meaning old new
-  apart_adds ok = func_adds old new (stmt.LetParts pat e ∷ []) [] a (λ k free. (split_used old new names fresh k free).0) (λ w. quiet_apart w pat e (quiet_operand w e ok))
+  apart_adds ok = func_adds old new (stmt.LetParts pat e ∷ []) [] a (λ k free. (split_used old new names fresh k free).0) (λ w. quiet_apart w pat e ok)
 
   taken_apart : (rs : List RustValue) → length names ≡ length rs → Stays func_meaning old new (of (operand_of e) (item (value.Struct rs)) ∷ []) (λ fs. fs ≡ ofs func_meaning (locals_of names) (item_data func_meaning rs))
   taken_apart rs len w p others s0 s at =

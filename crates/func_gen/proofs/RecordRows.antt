@@ -2,7 +2,6 @@
 use Rattle.std.proofs.Common.{◌≡◌, ℕ, true, List, [], ◌∷◌, length, map, reverse, Some, refl, sym, ap, ◌∙◌, subst, arith}
 use Rattle.std.specs.Prelude.{option_and_then, zip, codes}
 use Rattle.std.specs.Option.{option_map}
-use Rattle.std.proofs.lemmas.Bool.{and_parts}
 use Rattle.wit_model.specs.Bytes.{Bytes}
 use Rattle.wit_model.specs.Distinct.{is_distinct}
 use Rattle.wit_model.specs.declared.name.TypeId.{TypeId}
@@ -23,9 +22,9 @@ use Rattle.wrapper_values.specs.Fields.{arranged}
 use Rattle.wrapper_values.specs.Setting.{Setting, stuck}
 use Rattle.wrapper_values.specs.Whole.{field_act, given_names, whole_of}
 use Rattle.wrapper_run.specs.Run.{eval}
+use Rattle.wrapper_run.proofs.InwardCalls.{expr_quiet}
 use Rattle.wrapper_run.proofs.PartSteps.{eval-record}
 use Rattle.wrapper_run.specs.Inward.{CallsNothing}
-use Rattle.wrapper_run.proofs.QuietActs.{quiet_or_stop, quiet_pure, quiet_then}
 use Rattle.abi_bindgen.specs.declared.instruction.Instruction.TheVariants.{RecordLift, RecordLower}
 use Rattle.abi_bindgen.specs.Instructions.{Emits, IsRecord, field_shapes}
 use Rattle.abi_bindgen.proofs.Records.{field_count, one_record}
@@ -44,9 +43,9 @@ use Rattle.func_gen.specs.Scope.{TakesOne}
 use Rattle.func_gen.specs.CodeOf.{makes_record, splits_record}
 use Rattle.func_gen.proofs.FieldOrder.{arranged_fields, defined_at, fields_named, locals_distinct, locals_many as fields_many}
 use Rattle.func_gen.proofs.Forming.{form_by, form_let, locals_are}
+use Rattle.func_gen.proofs.InwardForms.{record_inward}
 use Rattle.func_gen.proofs.PartRows.{all_rust, lifts_whole}
 use Rattle.func_gen.proofs.PartsTaken.{apart_adds, apart_lowers, locals_many}
-use Rattle.func_gen.proofs.Quiet.{quiet_operand}
 use Rattle.func_gen.proofs.Rows.{let_adds}
 use Rattle.func_gen.proofs.Several.{Are}
 
@@ -62,20 +61,8 @@ module _ (w : Setting) where
   abbrev acts : List Bytes → List ExprOperand → List (Act (Bytes × Val))
   acts fields os = map field_act (map (λ (f : Bytes × Expr). (f.0, eval w f.1)) (zip fields (exprs_of os)))
 
-  quiet_fields : (fields : List Bytes) (os : List ExprOperand) → are_operands os ≡ true → CallsNothing (all (acts fields os))
-  quiet_fields [] os ok = quiet_pure []
-  quiet_fields (n ∷ ns) [] ok = quiet_pure []
-  quiet_fields (n ∷ ns) (o ∷ os) ok =
-      let two = and_parts (is_operand o.expr) (are_operands os) ok in
-      let a : Act (Bytes × Val) = eval w o.expr >>= (λ v. pure (n, v)) in
-      quiet_then a (λ x. all (acts ns os) >>= (λ xs. pure (x ∷ xs))) (quiet_then (eval w o.expr) (λ v. pure (n, v)) (quiet_operand w o.expr two.0) (λ v. quiet_pure (n, v)))
-      (λ x. quiet_then (all (acts ns os)) (λ xs. pure (x ∷ xs)) (quiet_fields ns os two.1) (λ xs. quiet_pure (x ∷ xs)))
-
   quiet_record : (site : RecordSite) (os : List ExprOperand) → are_operands os ≡ true → CallsNothing (eval w (expr.Record site.lifted (zip site.fields (exprs_of os))))
-  quiet_record site os ok =
-      let whole = λ (vs : List (Bytes × Val)). or_stop (stuck w) (option_and_then whole_of (arranged w.items site.lifted vs)) in
-      subst CallsNothing (sym (eval-record w site.lifted (zip site.fields (exprs_of os))))
-      (quiet_then (all (acts site.fields os)) whole (quiet_fields site.fields os ok) (λ vs. quiet_or_stop (stuck w) (option_and_then whole_of (arranged w.items site.lifted vs))))
+  quiet_record site os ok = expr_quiet w (expr.Record site.lifted (zip site.fields (exprs_of os))) (record_inward os ok site.lifted site.fields)
 
   -- fields are computed as the operands are, each with its name
   fields_run : (fields : List Bytes) (os : List ExprOperand) (s : State) → length os ≡ length fields → all (acts fields os) s ≡ and_then (all (map (λ (o : ExprOperand). eval w o.expr) os) s) (λ vs. pure (zip fields vs))

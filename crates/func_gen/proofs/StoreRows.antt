@@ -23,12 +23,10 @@ use Rattle.wrapper_values.specs.Effect.{is_word_of}
 use Rattle.wrapper_values.specs.Setting.{Setting, stuck}
 use Rattle.wrapper_run.specs.Blocks.{keep_blocks, store_small, store_word, write_word}
 use Rattle.wrapper_run.specs.Memory.{block_from, bytes_of, bytes_of_small, bytes_of_type, is_inside, low_bytes, stored, stored_small, writes_from}
-use Rattle.wrapper_run.specs.Run.{eval, run_stmt, run_stmts}
-use Rattle.wrapper_run.proofs.QuietSteps.{quiet_store}
+use Rattle.wrapper_run.specs.Run.{eval, run_stmts}
 use Rattle.wrapper_run.proofs.StmtSteps.{run-store, run-store_small, runs-first}
 use Rattle.wrapper_run.specs.Inward.{CallsNothing}
-use Rattle.wrapper_run.proofs.Acts.{stores_number}
-use Rattle.wrapper_run.proofs.QuietActs.{quiet_acts, quiet_pure, quiet_then}
+use Rattle.wrapper_run.proofs.InwardCalls.{stmts_quiet}
 use Rattle.abi_bindgen.specs.declared.instruction.Instruction.{Instruction}
 use Rattle.abi_bindgen.specs.declared.instruction.Instruction.TheVariants.{F32Store, F64Store, I32Store, I32Store8, I32Store16, I64Store, LengthStore, PointerStore}
 use Rattle.abi_bindgen.specs.Account.{Account, Peer}
@@ -53,9 +51,9 @@ use Rattle.abi_bindgen.specs.Sent.{sends}
 use Rattle.func_gen.proofs.Emissions.{small_store_emitted, whole_store_emitted}
 use Rattle.func_gen.proofs.Evaluated.{gives}
 use Rattle.func_gen.proofs.Forming.{form_effect, still_blocks, touches_plain}
+use Rattle.func_gen.proofs.InwardForms.{store_inward, store_small_inward}
 use Rattle.func_gen.proofs.MemoryTies.{by_blocks, byte_stored, f32_stored, f64_stored, half_stored, i32_stored, i64_stored, length_stored, pointer_stored, ranged_blocks, stored_low, stored_word}
 use Rattle.func_gen.proofs.PlainOperands.{reads_plainly, touches_plainly}
-use Rattle.func_gen.proofs.Quiet.{quiet_operand}
 use Rattle.func_gen.proofs.Writing.{Keeps, Writes, finish, finishes, one_adds, there_written, writes}
 
 -- 1. What is emitted
@@ -120,7 +118,7 @@ two_given w b e f x y s h =
 module _ (old new : FunctionBindgen) (e at : Expr) (ok : is_operand e ≡ true) (ok_at : is_operand at ≡ true) (o : ArchitectureSize) (scope : new.scope ≡ old.scope) where
   module _ (ty : WasmType) (a : Appends old new (stmt.Store at o ty e ∷ []) []) where
     stores_quietly : (w : Setting) → CallsNothing (run_stmts w (stmt.Store at o ty e ∷ []))
-    stores_quietly w = quiet_store w at o ty e [] (quiet_operand w at ok_at) (quiet_operand w e ok) (quiet_pure tt)
+    stores_quietly w = stmts_quiet w (stmt.Store at o ty e ∷ []) (store_inward e at ok ok_at o ty)
 
     pub store_adds : Adds func_meaning old new
     store_adds = one_adds old new (stmt.Store at o ty e) [] a scope stores_quietly
@@ -146,12 +144,7 @@ module _ (old new : FunctionBindgen) (e at : Expr) (ok : is_operand e ≡ true) 
 
   module _ (ty : SmallType) (a : Appends old new (stmt.StoreSmall at o ty e ∷ []) []) where
     low_quietly : (w : Setting) → CallsNothing (run_stmts w (stmt.StoreSmall at o ty e ∷ []))
-    low_quietly w =
-        quiet_then (run_stmt w (stmt.StoreSmall at o ty e)) (λ u. pure tt)
-        (subst CallsNothing (sym (run-store_small w at o ty e))
-        (quiet_then (eval w e) (λ v. eval w at >>= store_small w o ty v) (quiet_operand w e ok)
-        (λ v. quiet_then (eval w at) (store_small w o ty v) (quiet_operand w at ok_at) (stores_number w (λ A act. CallsNothing act) (quiet_acts w) o ty v))))
-        (λ u. quiet_pure tt)
+    low_quietly w = stmts_quiet w (stmt.StoreSmall at o ty e ∷ []) (store_small_inward e at ok ok_at o ty)
 
     pub low_adds : Adds func_meaning old new
     low_adds = one_adds old new (stmt.StoreSmall at o ty e) [] a scope low_quietly

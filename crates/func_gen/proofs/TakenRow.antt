@@ -41,13 +41,12 @@ use Rattle.wrapper_run.specs.Memory.{block_at, block_from, bytes_from, is_at}
 use Rattle.wrapper_run.specs.Run.{apply, call_callee, call_runtime, eval, run_stmts, runtime_item_named}
 use Rattle.wrapper_run.proofs.GiveSteps.{let_runs}
 use Rattle.wrapper_run.proofs.HeapLemmas.{begins}
+use Rattle.wrapper_run.proofs.InwardCalls.{stmts_quiet}
 use Rattle.wrapper_run.proofs.LocalLemmas.{reads-new}
 use Rattle.wrapper_run.proofs.OwningLemmas.{buffer-text, owned-block, owned-empty}
-use Rattle.wrapper_run.proofs.QuietSteps.{quiet_let, quiet_local, quiet_raw, quiet_runtime}
 use Rattle.wrapper_run.proofs.StmtSteps.{runs-let}
 use Rattle.wrapper_run.proofs.TakeLemmas.{raw_gives}
 use Rattle.wrapper_run.specs.Inward.{CallsNothing}
-use Rattle.wrapper_run.proofs.QuietActs.{quiet_pure}
 use Rattle.abi_bindgen.specs.Account.{Account, Follows, Got, Outcome, Peer, Stopped, Taken, addresses, failing, gives as lawful, found as law_found, taking, tested as law_tested}
 use Rattle.abi_bindgen.specs.declared.instruction.Instruction.TheVariants as instruction
 use Rattle.abi_bindgen.specs.Instructions.{Emits}
@@ -73,10 +72,10 @@ use Rattle.func_gen.proofs.Declared.{Three, fresh_name, hold_as, keeps, three, t
 use Rattle.func_gen.proofs.Evaluated.{gives}
 use Rattle.func_gen.proofs.Forgetting.{one_called, with_taken}
 use Rattle.func_gen.proofs.Forming.{form_by}
+use Rattle.func_gen.proofs.InwardForms.{inward_both, let_inward, operand_inward, parts_inward, text_inward}
 use Rattle.func_gen.proofs.LoadTies.{same_bytes}
 use Rattle.func_gen.proofs.Lasting.{area_same, bound_under, owns_with, part, with_local}
 use Rattle.func_gen.proofs.PartRows.{areas_last}
-use Rattle.func_gen.proofs.Quiet.{quiet_operand}
 use Rattle.func_gen.proofs.Rows.{same_area}
 use Rattle.func_gen.proofs.RuntimeItems.{found_right}
 use Rattle.func_gen.proofs.ScalarRows.{calls_runtime}
@@ -162,9 +161,11 @@ module _ (set : Setting) (t : ℕ) where
 
   quiet_taken : (a e : Expr) → is_operand a ≡ true → is_operand e ≡ true → CallsNothing (run_stmts set (taken_stmts t a e))
   quiet_taken a e ok_a ok_e =
-      quiet_let set (len_name t) e (stmt.Let (bytes_name t) (expr.FromRawParts a (len_name t)) ∷ lifting ∷ []) (quiet_operand set e ok_e)
-      (quiet_let set (bytes_name t) (expr.FromRawParts a (len_name t)) (lifting ∷ []) (quiet_raw set a (len_name t) (quiet_operand set a ok_a))
-      (quiet_let set (text_name t) (runtime_call StringLift (expr.Local (bytes_name t))) [] (quiet_runtime set (runtime_path StringLift) (item_name StringLift) (expr.Local (bytes_name t)) (calls_runtime StringLift) (quiet_local set (bytes_name t))) (quiet_pure tt)))
+      let parts = expr.FromRawParts a (len_name t) in
+      let take = stmt.Let (bytes_name t) parts in
+      stmts_quiet set (taken_stmts t a e)
+      (inward_both (stmt.Let (len_name t) e ∷ []) (take ∷ lifting ∷ []) (let_inward e (operand_inward e ok_e) (len_name t))
+      (inward_both (take ∷ []) (lifting ∷ []) (let_inward parts (parts_inward a (len_name t) (operand_inward a ok_a)) (bytes_name t)) (let_inward (runtime_call StringLift (expr.Local (bytes_name t))) (text_inward (bytes_name t)) (text_name t))))
 
 -- 4. What was taken over stands for its bytes
 

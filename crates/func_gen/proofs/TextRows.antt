@@ -20,11 +20,10 @@ use Rattle.wrapper_values.specs.Setting.{Setting}
 use Rattle.wrapper_run.specs.Blocks.{box_buffer, boxed, release_all}
 use Rattle.wrapper_run.specs.Run.{eval, run_stmts}
 use Rattle.wrapper_run.proofs.GiveSteps.{eval-boxed}
+use Rattle.wrapper_run.proofs.InwardCalls.{stmts_quiet}
 use Rattle.wrapper_run.proofs.OwningLemmas.{buffer-text, owned-lent}
-use Rattle.wrapper_run.proofs.QuietSteps.{quiet_boxed}
 use Rattle.wrapper_run.proofs.StepLemmas.{eval-local}
 use Rattle.wrapper_run.specs.Inward.{CallsNothing}
-use Rattle.wrapper_run.proofs.QuietActs.{quiet_pure}
 use Rattle.abi_bindgen.specs.Account.{Account, Done, Follows, Got, Outcome, Stopped, Stuck, account_in, addresses, releasing}
 use Rattle.abi_bindgen.specs.declared.instruction.Instruction.TheVariants.{StringLower}
 use Rattle.abi_bindgen.specs.Instructions.{Emits}
@@ -45,15 +44,15 @@ use Rattle.func_gen.specs.TextForms.{buffer_names, buffer_stmts, buffer_words, f
 use Rattle.func_gen.specs.Scope.{Takes}
 use Rattle.func_gen.specs.CodeOf.{gives_text, hands_text, lends_text}
 use Rattle.func_gen.specs.Slot.{Slot}
-use Rattle.func_gen.proofs.Buffers.{buffer_facts, buffer_holds, buffer_runs, buffer_under, buffer_val, owns_buffer, ptr_len, quiet_buffer, uses_buffer, vec_len, vec_ptr, with_buffer}
+use Rattle.func_gen.proofs.Buffers.{buffer_facts, buffer_holds, buffer_inward, buffer_runs, buffer_under, buffer_val, owns_buffer, ptr_len, uses_buffer, vec_len, vec_ptr, with_buffer}
 use Rattle.func_gen.proofs.Declared.{Three, hold_as, three, three_used, unused_before, with_three}
 use Rattle.func_gen.proofs.Emissions.{local_is}
-use Rattle.func_gen.proofs.Forgetting.{Releases, forget_runs, quiet_forgotten, releases, with_taken}
+use Rattle.func_gen.proofs.Forgetting.{Releases, forget_runs, releases, with_taken}
 use Rattle.func_gen.proofs.Forming.{form_by}
 use Rattle.func_gen.proofs.GivenTexts.{given_text}
+use Rattle.func_gen.proofs.InwardForms.{bytes_inward, expr_inward, forgotten_inward, inward_both, operand_inward}
 use Rattle.func_gen.proofs.Lasting.{area_same, part}
 use Rattle.func_gen.proofs.PartRows.{areas_last}
-use Rattle.func_gen.proofs.Quiet.{quiet_operand}
 use Rattle.func_gen.proofs.Rows.{same_area}
 use Rattle.func_gen.proofs.Steps.{func_adds, ran, seen_calls}
 use Rattle.wrapper_meaning.proofs.PostReturn.{total-append}
@@ -65,7 +64,7 @@ module _ (types : List TypeDef) (old new : FunctionBindgen) (e : Expr) (t : ℕ)
   lent_names = three old new (vec_name t) (ptr_name t) (len_name t) f (vec_ptr t) (vec_len t) (ptr_len t)
 
   lent_adds : Adds func_meaning old new
-  lent_adds = func_adds old new (buffer_stmts t e) [] a (unused_before old new (buffer_names t) f) (λ w. quiet_buffer w t e [] (quiet_operand w e ok) (quiet_pure tt))
+  lent_adds = func_adds old new (buffer_stmts t e) [] a (unused_before old new (buffer_names t) f) (λ w. stmts_quiet w (buffer_stmts t e) (buffer_inward t e (operand_inward e ok)))
 
   -- a text that owns nothing stays where it was lent
   lends : (p n : ℕ) → Does func_meaning (Unit {0}) old new (of (operand_of e) (item (value.Buffer p n false)) ∷ []) (λ q. releasing []) (λ u fs. fs ≡ buffer_facts t p n) (λ u. []) (λ u. [])
@@ -128,7 +127,10 @@ module _ (types : List TypeDef) (old new : FunctionBindgen) (name : Bytes) (t : 
   given_names = three old new (vec_name t) (ptr_name t) (len_name t) f (vec_ptr t) (vec_len t) (ptr_len t)
 
   quiet_given : (w : Setting) → CallsNothing (run_stmts w (given_stmts t name))
-  quiet_given w = quiet_buffer w t (expr.IntoBoxedBytes name) (stmt.Expr (forgotten (vec_name t)) ∷ []) (quiet_boxed w name) (quiet_forgotten w (vec_name t))
+  quiet_given w =
+      let forgets = stmt.Expr (forgotten (vec_name t)) ∷ [] in
+      stmts_quiet w (given_stmts t name)
+      (inward_both (buffer_stmts t (expr.IntoBoxedBytes name)) forgets (buffer_inward t (expr.IntoBoxedBytes name) (bytes_inward name)) (expr_inward (forgotten (vec_name t)) (forgotten_inward (vec_name t))))
 
   given_adds : Adds func_meaning old new
   given_adds = func_adds old new (given_stmts t name) [] a (unused_before old new (buffer_names t) f) quiet_given

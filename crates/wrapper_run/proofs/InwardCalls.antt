@@ -1,10 +1,11 @@
 -- Inward code makes no call.
-use Rattle.std.proofs.Common.{◌≡◌, Bool, true, false, List, [], ◌∷◌, Option, None, Some}
+use Rattle.std.proofs.Common.{Bool, List, None, Option, Some, [], false, map, true, ◌∷◌, ◌≡◌}
 use Rattle.wit_model.specs.Bytes.{Bytes}
 use Rattle.rust_tree.specs.declared.expr.Expr.{Expr}
 use Rattle.rust_tree.specs.declared.pattern.ArmPattern.{ArmPattern}
 use Rattle.rust_tree.specs.declared.stmt.Block.{Block as Code}
 use Rattle.rust_tree.specs.declared.stmt.MatchNames.{MatchNames}
+use Rattle.rust_tree.specs.declared.stmt.Stmt.{Stmt}
 use Rattle.wrapper_values.specs.declared.state.Val.{Val}
 use Rattle.wrapper_values.specs.Act.{Act, ◌>>=◌, ◌>>◌}
 use Rattle.wrapper_values.specs.CoreWords.{empty_slot}
@@ -12,11 +13,11 @@ use Rattle.wrapper_values.specs.Locals.{bind, local_named, value_of, write_slot}
 use Rattle.wrapper_values.specs.Matches.{bind_results, enter_arm, takes}
 use Rattle.wrapper_values.specs.Setting.{Setting, stuck}
 use Rattle.wrapper_run.specs.Arms.{ArmAct, run_arm, run_arm_or, run_arms}
-use Rattle.wrapper_run.specs.Inward.{CallsNothing, is_inward, is_inward_expr, is_no_import}
+use Rattle.wrapper_run.specs.Inward.{CallsNothing, are_inward, is_inward, is_inward_expr, stmt_test}
 use Rattle.wrapper_run.specs.Results.{run_inner, run_results}
-use Rattle.wrapper_run.specs.Run.{Callee, call_callee, eval, run_block}
+use Rattle.wrapper_run.specs.Run.{eval, run_block, run_stmts}
 use Rattle.wrapper_run.proofs.Acts.{deallocates, lifts, loads_number, loads_word, stores_number, stores_word, takes_bytes}
-use Rattle.wrapper_run.proofs.InwardWalk.{Within, binds_results, calls_callee, enters, walks_block, walks_expr, walks_given}
+use Rattle.wrapper_run.proofs.InwardWalk.{Within, binds_results, enters, walks_block, walks_expr, walks_given, walks_stmts}
 use Rattle.wrapper_run.proofs.QuietActs.{quiet_acts, quiet_ask, quiet_bind, quiet_declare, quiet_free, quiet_lend, quiet_pure, quiet_release, quiet_scope, quiet_stop, quiet_then, quiet_use, quiet_write}
 
 -- a slot is declared and written, and then the act
@@ -48,11 +49,11 @@ quiet_within w = record {
   writes = λ name e act h k. quiet_writing w name e act h k;
 }
 
-pub callee_quiet : (w : Setting) (k : Callee) (vs : List Val) → is_no_import k ≡ true → CallsNothing (call_callee w k vs)
-callee_quiet w = calls_callee w (λ A act. CallsNothing act) (quiet_within w)
-
 pub expr_quiet : (w : Setting) (e : Expr) → is_inward_expr e ≡ true → CallsNothing (eval w e)
 expr_quiet w = walks_expr w (λ A act. CallsNothing act) (quiet_within w)
+
+pub stmts_quiet : (w : Setting) (stmts : List Stmt) → are_inward None (map stmt_test stmts) ≡ true → CallsNothing (run_stmts w stmts)
+stmts_quiet w = walks_stmts w (λ A act. CallsNothing act) (quiet_within w)
 
 pub code_quiet : (w : Setting) (b : Code) → is_inward b ≡ true → CallsNothing (run_block w b)
 code_quiet w = walks_block w (λ A act. CallsNothing act) (quiet_within w)

@@ -180,7 +180,7 @@ module _ (w : Setting) (P : (A : Type 0) → Act A → Type 0) (h : Within w P) 
   calls_core f (v ∷ []) = or_stops Val (stuck w) (option_map val.Word (core_word f v))
   calls_core f (v ∷ u ∷ vs) = h.stops Val (stuck w)
 
-  pub calls_callee : (k : Callee) (vs : List Val) → is_no_import k ≡ true → P Val (call_callee w k vs)
+  calls_callee : (k : Callee) (vs : List Val) → is_no_import k ≡ true → P Val (call_callee w k vs)
   calls_callee (alone name) vs k = absurd (cc)
   calls_callee (of_runtime name) vs k = calls_runtime name vs
   calls_callee (member_of ty name) vs k = calls_member ty name vs
@@ -189,7 +189,7 @@ module _ (w : Setting) (P : (A : Type 0) → Act A → Type 0) (h : Within w P) 
   calls_callee core_forget vs k = forgets vs
   calls_callee unknown vs k = h.stops Val (stuck w)
 
-  pub boxes : (v : Val) → P Val (boxed w v)
+  boxes : (v : Val) → P Val (boxed w v)
   unfolding boxed
   boxes v = go (buffer_of v)
     where
@@ -488,7 +488,7 @@ module _ (w : Setting) (P : (A : Type 0) → Act A → Type 0) (h : Within w P) 
   stmts_hold [] = tt
   stmts_hold (s ∷ stmts) = (walks_stmt s, stmts_hold stmts)
 
-  walks_stmts : (stmts : List Stmt) → are_inward None (map stmt_test stmts) ≡ true → P (Unit {0}) (run_stmts w stmts)
+  pub walks_stmts : (stmts : List Stmt) → are_inward None (map stmt_test stmts) ≡ true → P (Unit {0}) (run_stmts w stmts)
   walks_stmts stmts k = runs_each None (map stmt_test stmts) (map (run_stmt w) stmts) (stmts_hold stmts) k
 
   walks_tail : (tail : Option Expr) → is_inward_tail tail ≡ true → P Val (run_tail w tail)

@@ -54,9 +54,6 @@ quiet_then {A = A} {B = B} act f h k = record { quiet = λ s. go s (act s) (h.qu
 pub quiet_cons : {A : Type 0} (act : Act A) (acts : List (Act A)) → CallsNothing act → CallsNothing (all acts) → CallsNothing (all (act ∷ acts))
 quiet_cons act acts h k = quiet_then act (λ x. all acts >>= (λ xs. pure (x ∷ xs))) h (λ x. quiet_then (all acts) (λ xs. pure (x ∷ xs)) k (λ xs. quiet_pure (x ∷ xs)))
 
-pub quiet_one : {A : Type 0} (act : Act A) → CallsNothing act → CallsNothing (all (act ∷ []))
-quiet_one act h = quiet_cons act [] h (quiet_pure [])
-
 -- 2. Locals
 
 quiet_used : (name : Bytes) (v : Val) (addresses : List ℕ) → CallsNothing (used name v addresses)

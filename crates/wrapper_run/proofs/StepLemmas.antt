@@ -10,8 +10,6 @@ use Rattle.rust_tree.specs.declared.expr.Expr.TheVariants as expr
 use Rattle.rust_tree.specs.declared.expr.Expr.TheVariants.{rolls-Call, rolls-Cast, rolls-I32FromBool}
 use Rattle.rust_tree.specs.declared.path.Path.{Path}
 use Rattle.std.proofs.Common.{Bool}
-use Rattle.wrapper_data.specs.declared.run.TrapKind.TheVariants as trap
-use Rattle.wrapper_values.specs.declared.state.Local.{Local}
 use Rattle.wrapper_run.proofs.OwningLemmas.{ArePlain, buffer-text, drops_plain}
 use Rattle.wrapper_values.specs.declared.owning.View.{View}
 use Rattle.wrapper_values.specs.declared.owning.View.TheVariants as view_of
@@ -21,7 +19,6 @@ use Rattle.wrapper_values.specs.Locals.{ask_local}
 use Rattle.rust_tree.specs.declared.type_expr.TypeExpr.{TypeExpr}
 use Rattle.wrapper_values.specs.Effect.{answer_of}
 use Rattle.wrapper_run.specs.Run.{answer_and_leave, give_and_leave}
-use Rattle.wrapper_data.specs.Answered.{answered}
 use Rattle.wrapper_data.specs.declared.answer.Answer.TheVariants as answer
 use Rattle.wrapper_data.specs.declared.run.CallPoint.{CallPoint}
 use Rattle.wrapper_data.specs.declared.run.Stop.{Stop}

@@ -7,8 +7,6 @@ use Rattle.rust_tree.specs.declared.expr.Expr.TheVariants as expr
 use Rattle.rust_tree.specs.declared.expr.Expr.TheVariants.{rolls-FromRawParts}
 use Rattle.wrapper_data.specs.declared.block.Block.{Block}
 use Rattle.wrapper_data.specs.declared.value.RustValue.TheVariants as value
-use Rattle.wrapper_data.specs.declared.run.TrapKind.TheVariants as trap
-use Rattle.wrapper_data.specs.declared.word.Word.{Word}
 use Rattle.wrapper_data.specs.declared.word.Word.TheVariants as word
 use Rattle.wrapper_values.specs.declared.state.Local.{Local}
 use Rattle.wrapper_values.specs.declared.state.State.{State}
@@ -42,7 +40,7 @@ use Rattle.wrapper_run.proofs.StepLemmas.{ask_gives}
 
 -- take-over
 
-pub eval-raw : (w : Setting) (e : Expr) (size : Bytes) → eval w (expr.FromRawParts e size) ≡ (eval w e >>= (λ v. λ s. take_bytes w (value_of (local_named size s.locals)) v s))
+eval-raw : (w : Setting) (e : Expr) (size : Bytes) → eval w (expr.FromRawParts e size) ≡ (eval w e >>= (λ v. λ s. take_bytes w (value_of (local_named size s.locals)) v s))
 eval-raw w e size = ap (eval w) (sym (rolls-FromRawParts e size)) ∙ fold-roll-Expr (Act Val) (eval_step w) (Expr-F.FromRawParts e size)
 
 pub raw_gives : (w : Setting) (e : Expr) (name : Bytes) (p n : ℕ) (s : State)
