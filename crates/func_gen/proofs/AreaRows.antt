@@ -31,11 +31,11 @@ use Rattle.wrapper_values.specs.Owning.{owned_in}
 use Rattle.wrapper_values.specs.Setting.{Setting, stuck}
 use Rattle.wrapper_run.specs.Places.{area_block, area_in, is_fitting, place_area, place_at, place_static, request_of, static_place, static_pointer, with_area}
 use Rattle.wrapper_run.specs.Run.{eval, run_stmts}
+use Rattle.wrapper_run.specs.Inward.{CallsNothing}
 use Rattle.wrapper_run.proofs.GiveSteps.{eval-static}
 use Rattle.wrapper_run.proofs.QuietSteps.{quiet_static}
 use Rattle.wrapper_run.proofs.StmtSteps.{runs-let}
 use Rattle.wrapper_run.proofs.TakeLemmas.{area_gives, eval-return_pointer}
-use Rattle.wrapper_run.specs.Inward.{CallsNothing}
 use Rattle.wrapper_run.proofs.QuietActs.{quiet_ask}
 use Rattle.abi_bindgen.specs.declared.bindgen.Asked.{Asked}
 use Rattle.abi_bindgen.specs.Account.{Done, Follows, Got, Outcome, Peer, Stopped, Stuck}

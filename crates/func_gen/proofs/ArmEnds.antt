@@ -12,9 +12,9 @@ use Rattle.wrapper_values.specs.Owning.{owned_in}
 use Rattle.wrapper_values.specs.Setting.{Setting}
 use Rattle.wrapper_run.specs.Blocks.{drop_locals, in_scope, keep_locals, leave_to}
 use Rattle.wrapper_run.specs.OuterLocals.{EndsBehind, IsInReach, OwnNothing, RunsBehind, behind_all}
+use Rattle.wrapper_run.specs.Inward.{CallsNothing}
 use Rattle.wrapper_run.proofs.OuterLemmas.{add_locals}
 use Rattle.wrapper_run.proofs.OwningLemmas.{drops_plain}
-use Rattle.wrapper_run.specs.Inward.{CallsNothing}
 use Rattle.wrapper_run.proofs.QuietActs.{calls_at, quiet_scope, quiet_then}
 
 -- 1. Locals that own nothing

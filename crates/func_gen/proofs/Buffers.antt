@@ -1,5 +1,5 @@
 -- A buffer in a local, and locals of its address and its length.
-use Rattle.std.proofs.Common.{Bool, List, None, Some, [], ap, arith, false, refl, sym, true, ℕ, ◌++◌, ◌+◌, ◌∙◌, ◌∷◌, ◌≡◌}
+use Rattle.std.proofs.Common.{◌≡◌, ℕ, ◌+◌, Bool, true, false, List, [], ◌∷◌, ◌++◌, None, Some, refl, sym, ap, ◌∙◌, arith}
 use Rattle.std.specs.Prelude.{option_and_then}
 use Rattle.std.specs.Str.{bytes_eq}
 use Rattle.wit_model.specs.declared.types.WitType.TheVariants as wit
@@ -24,11 +24,11 @@ use Rattle.wrapper_values.specs.Locals.{usable}
 use Rattle.wrapper_values.specs.Owning.{buffer_of, owned}
 use Rattle.wrapper_values.specs.Setting.{Setting}
 use Rattle.wrapper_run.specs.Run.{eval, run_stmts}
+use Rattle.wrapper_run.specs.Inward.{is_inward_expr}
 use Rattle.wrapper_run.proofs.GiveSteps.{let_runs}
 use Rattle.wrapper_run.proofs.LocalLemmas.{reads-new, reads-past}
 use Rattle.wrapper_run.proofs.OwningLemmas.{buffer-text, no_buffer-f32, no_buffer-f64, no_buffer-number}
 use Rattle.wrapper_run.proofs.StepLemmas.{as_ptr_gives, len_gives}
-use Rattle.wrapper_run.specs.Inward.{is_inward_expr}
 use Rattle.abi_bindgen.specs.Meaning.{Fact, item, of, word}
 use Rattle.func_gen.specs.declared.function_bindgen.FunctionBindgen.{FunctionBindgen}
 use Rattle.func_gen.specs.declared.operand.ExprOperand.{ExprOperand}

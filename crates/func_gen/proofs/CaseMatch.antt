@@ -28,8 +28,8 @@ use Rattle.wrapper_run.specs.Blocks.{in_scope}
 use Rattle.wrapper_run.specs.Growth.{state_of}
 use Rattle.wrapper_run.specs.OuterLocals.{IsInReach}
 use Rattle.wrapper_run.specs.Run.{eval, run_stmts}
-use Rattle.wrapper_run.proofs.VariantSteps.{match_runs}
 use Rattle.wrapper_run.specs.Inward.{CallsNothing}
+use Rattle.wrapper_run.proofs.VariantSteps.{match_runs}
 use Rattle.abi_bindgen.specs.Account.{Account, Done, Follows, Outcome, Peer, Stuck, account_in, then_do}
 use Rattle.abi_bindgen.specs.Arms.{Armed, arms, gives_words}
 use Rattle.abi_bindgen.specs.Blocks.{owned_datum}

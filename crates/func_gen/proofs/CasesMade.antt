@@ -19,10 +19,10 @@ use Rattle.wrapper_values.specs.Variants.{bare_case, case_number, full_case, wit
 use Rattle.wrapper_run.specs.LastParts.{results, results_in}
 use Rattle.wrapper_run.specs.Results.{run_results}
 use Rattle.wrapper_run.specs.Run.{call, eval, make_case, run_stmts}
+use Rattle.wrapper_run.specs.Inward.{CallsNothing}
 use Rattle.wrapper_run.proofs.StepLemmas.{eval-call}
 use Rattle.wrapper_run.proofs.StmtSteps.{code-opened}
 use Rattle.wrapper_run.proofs.VariantSteps.{eval-bare, eval-unit}
-use Rattle.wrapper_run.specs.Inward.{CallsNothing}
 use Rattle.wrapper_run.proofs.QuietActs.{quiet_or_stop, quiet_pure, quiet_stop, quiet_then}
 use Rattle.func_gen.specs.LiftedCases.{case_body, case_expr}
 

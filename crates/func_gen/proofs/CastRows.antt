@@ -30,10 +30,10 @@ use Rattle.wrapper_values.specs.Locals.{bind, give_local, slot_with, write_slot}
 use Rattle.wrapper_values.specs.Setting.{Setting, stuck}
 use Rattle.wrapper_values.proofs.ChangedLemmas.{changed_last}
 use Rattle.wrapper_run.specs.Run.{eval, run_stmts}
+use Rattle.wrapper_run.specs.Inward.{CallsNothing}
 use Rattle.wrapper_run.proofs.InwardCalls.{stmts_quiet}
 use Rattle.wrapper_run.proofs.LocalLemmas.{bytes_eq-same, reads-new}
 use Rattle.wrapper_run.proofs.StmtSteps.{run-slot, run-write, runs-first}
-use Rattle.wrapper_run.specs.Inward.{CallsNothing}
 use Rattle.abi_bindgen.specs.Constants.{AreCasts, CastsWords, cast_words}
 use Rattle.abi_bindgen.specs.Laws.{Facts, core_data, ofs}
 use Rattle.abi_bindgen.specs.Meaning.{Fact, of, word}

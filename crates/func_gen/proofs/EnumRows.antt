@@ -46,11 +46,11 @@ use Rattle.wrapper_values.specs.Flags.{repr_bits}
 use Rattle.wrapper_values.specs.Owning.{owned_by}
 use Rattle.wrapper_values.specs.Setting.{Setting}
 use Rattle.wrapper_run.specs.Run.{call_callee, call_member, callee, eval, lift_act, lift_case, lift_name, member_of, runtime_module_name}
+use Rattle.wrapper_run.specs.Inward.{CallsNothing}
 use Rattle.wrapper_run.proofs.EnumSteps.{callee-lift, member_lifted}
 use Rattle.wrapper_run.proofs.InwardCalls.{expr_quiet}
 use Rattle.wrapper_run.proofs.NumberLemmas.{num_of-number}
 use Rattle.wrapper_run.proofs.StepLemmas.{call_gives}
-use Rattle.wrapper_run.specs.Inward.{CallsNothing}
 use Rattle.abi_bindgen.specs.declared.instruction.Instruction.TheVariants.{EnumLift, EnumLower}
 use Rattle.abi_bindgen.specs.Account.{Peer, failing, stay}
 use Rattle.abi_bindgen.specs.Cases.{LiftsEnum, LowersEnum, case_word, reading_tag, tag_of}

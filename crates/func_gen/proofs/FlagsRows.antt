@@ -42,10 +42,10 @@ use Rattle.wrapper_values.specs.Flags.{bits_of_level, flags_from, flags_in, flag
 use Rattle.wrapper_values.specs.Setting.{Setting, stuck}
 use Rattle.wrapper_values.proofs.FlagsLemmas.{words_from}
 use Rattle.wrapper_run.specs.Run.{eval, eval_step}
+use Rattle.wrapper_run.specs.Inward.{CallsNothing}
 use Rattle.wrapper_run.proofs.InwardCalls.{expr_quiet}
 use Rattle.wrapper_run.proofs.LocalLemmas.{reads-new}
 use Rattle.wrapper_run.proofs.StepLemmas.{Give}
-use Rattle.wrapper_run.specs.Inward.{CallsNothing}
 use Rattle.abi_bindgen.specs.declared.instruction.Instruction.TheVariants.{FlagsLift, FlagsLower}
 use Rattle.abi_bindgen.specs.Account.{stay}
 use Rattle.abi_bindgen.specs.FlagSets.{LiftsFlags, LowersFlags}

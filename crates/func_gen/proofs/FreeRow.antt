@@ -27,12 +27,12 @@ use Rattle.wrapper_values.specs.Setting.{Setting, failed, stuck}
 use Rattle.wrapper_run.specs.Blocks.{dealloc, drop_value, free_all, free_bytes, free_untaken}
 use Rattle.wrapper_run.specs.Memory.{begins_at, block_at, block_from, is_at, without}
 use Rattle.wrapper_run.specs.Run.{apply, call, call_callee, call_runtime, eval, run_stmts, runtime_item_named}
+use Rattle.wrapper_run.specs.Inward.{CallsNothing, is_inward_expr}
 use Rattle.wrapper_run.proofs.OwningLemmas.{owned-unit}
 use Rattle.wrapper_run.proofs.StmtSteps.{runs-expr}
 use Rattle.wrapper_run.proofs.StepLemmas.{call_gives}
 use Rattle.wrapper_run.proofs.FreeSteps.{eval-size, one_byte}
 use Rattle.wrapper_run.proofs.InwardCalls.{stmts_quiet}
-use Rattle.wrapper_run.specs.Inward.{CallsNothing, is_inward_expr}
 use Rattle.abi_bindgen.specs.declared.instruction.Instruction.TheVariants.{GuestDeallocate, GuestDeallocateString}
 use Rattle.abi_bindgen.specs.Account.{failing}
 use Rattle.abi_bindgen.specs.Instructions.{Emits}

@@ -39,10 +39,10 @@ use Rattle.wrapper_values.specs.Effect.{bit, bool_of_number, cast_integer, char_
 use Rattle.wrapper_values.specs.Owning.{owned}
 use Rattle.wrapper_values.specs.Setting.{Setting}
 use Rattle.wrapper_run.specs.Run.{apply, call_callee, call_runtime, converted_or_lifted, eval, lift_act, runtime_item_named}
+use Rattle.wrapper_run.specs.Inward.{CallsNothing}
 use Rattle.wrapper_run.proofs.InwardCalls.{expr_quiet}
 use Rattle.wrapper_run.proofs.NumberLemmas.{not-converted, num_of-number, word_of-bool}
 use Rattle.wrapper_run.proofs.StepLemmas.{bool_gives, call_gives}
-use Rattle.wrapper_run.specs.Inward.{CallsNothing}
 use Rattle.abi_bindgen.specs.declared.instruction.Instruction.TheVariants.{BoolFromI32, CharFromI32, I32FromBool}
 use Rattle.abi_bindgen.specs.Account.{Peer, failing, reading, stay}
 use Rattle.abi_bindgen.specs.Instructions.{Emits}

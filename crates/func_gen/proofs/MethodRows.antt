@@ -43,10 +43,10 @@ use Rattle.wrapper_run.specs.Blocks.{free_all, keep_locals, leave_to}
 use Rattle.wrapper_run.specs.ExportRun.{call_method, call_with, keep_result, method_call, method_in, method_named, method_point, passed_as, returned_of, take_value, values_of}
 use Rattle.wrapper_run.specs.Memory.{block_from}
 use Rattle.wrapper_run.specs.Run.{run_stmts}
+use Rattle.wrapper_run.specs.Inward.{CallsNothing}
 use Rattle.wrapper_run.proofs.LocalLemmas.{bytes_eq-same, reads-new}
 use Rattle.wrapper_run.proofs.MethodLemmas.{answered_by, called_with, method_gives, point_of, quiet_taken, returned-unit, value_gives}
 use Rattle.wrapper_run.proofs.OwningLemmas.{ArePlain, drops_plain}
-use Rattle.wrapper_run.specs.Inward.{CallsNothing}
 use Rattle.wrapper_run.proofs.QuietActs.{calls_at, quiet_bind, quiet_drop, quiet_leave, quiet_pure, quiet_then}
 use Rattle.abi_bindgen.specs.declared.bindgen.Asked.{Asked}
 use Rattle.abi_bindgen.specs.declared.instruction.Instruction.TheVariants as instruction

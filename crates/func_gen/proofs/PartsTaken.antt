@@ -37,6 +37,7 @@ use Rattle.wrapper_values.specs.Act as machine
 use Rattle.wrapper_values.specs.Act.{and_then, pure}
 use Rattle.wrapper_values.specs.Effect.{rust_of, rust_of_word}
 use Rattle.std.specs.Option.{option_or}
+use Rattle.wrapper_run.specs.Inward.{CallsNothing}
 use Rattle.wrapper_run.proofs.InwardCalls.{stmts_quiet}
 use Rattle.wrapper_run.proofs.LocalLemmas.{bytes_eq-same, last-append}
 use Rattle.wrapper_values.specs.Locals.{local_named}
@@ -45,7 +46,6 @@ use Rattle.wrapper_values.specs.Setting.{Setting}
 use Rattle.wrapper_values.specs.Whole.{given_names, parts_of, parts_of_level}
 use Rattle.wrapper_run.specs.Run.{run_stmts}
 use Rattle.wrapper_run.proofs.PartSteps.{AsMany, part_locals, parts-whole, takes_apart}
-use Rattle.wrapper_run.specs.Inward.{CallsNothing}
 use Rattle.abi_bindgen.specs.Laws.{Adds, Stays, item_data, ofs}
 use Rattle.abi_bindgen.specs.Meaning.{Fact, item, of}
 use Rattle.abi_bindgen.specs.Parts.{PartsStand, count}

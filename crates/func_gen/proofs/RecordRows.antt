@@ -22,9 +22,9 @@ use Rattle.wrapper_values.specs.Fields.{arranged}
 use Rattle.wrapper_values.specs.Setting.{Setting, stuck}
 use Rattle.wrapper_values.specs.Whole.{field_act, given_names, whole_of}
 use Rattle.wrapper_run.specs.Run.{eval}
+use Rattle.wrapper_run.specs.Inward.{CallsNothing}
 use Rattle.wrapper_run.proofs.InwardCalls.{expr_quiet}
 use Rattle.wrapper_run.proofs.PartSteps.{eval-record}
-use Rattle.wrapper_run.specs.Inward.{CallsNothing}
 use Rattle.abi_bindgen.specs.declared.instruction.Instruction.TheVariants.{RecordLift, RecordLower}
 use Rattle.abi_bindgen.specs.Instructions.{Emits, IsRecord, field_shapes}
 use Rattle.abi_bindgen.proofs.Records.{field_count, one_record}

@@ -21,11 +21,11 @@ use Rattle.wrapper_values.specs.Locals.{bind, usable}
 use Rattle.wrapper_values.specs.Owning.{owned}
 use Rattle.wrapper_values.specs.Setting.{Setting}
 use Rattle.wrapper_run.specs.Run.{eval, run_stmts}
+use Rattle.wrapper_run.specs.Inward.{CallsNothing}
 use Rattle.wrapper_run.proofs.LocalLemmas.{reads-new}
 use Rattle.wrapper_run.proofs.GiveSteps.{let_runs}
 use Rattle.wrapper_run.proofs.QuietSteps.{quiet_let as quiet_stmt}
 use Rattle.wrapper_run.proofs.StmtSteps.{runs-let}
-use Rattle.wrapper_run.specs.Inward.{CallsNothing}
 use Rattle.wrapper_run.proofs.QuietActs.{quiet_pure}
 use Rattle.abi_bindgen.specs.Account.{Account, Act, Done, Follows, Got, Outcome, Peer, Stopped, Stuck, account_in, stay}
 use Rattle.abi_bindgen.specs.declared.instruction.Instruction.{Instruction}

@@ -24,8 +24,8 @@ use Rattle.wrapper_values.specs.Setting.{Setting, stuck}
 use Rattle.wrapper_run.specs.Blocks.{keep_blocks, store_small, store_word, write_word}
 use Rattle.wrapper_run.specs.Memory.{block_from, bytes_of, bytes_of_small, bytes_of_type, is_inside, low_bytes, stored, stored_small, writes_from}
 use Rattle.wrapper_run.specs.Run.{eval, run_stmts}
-use Rattle.wrapper_run.proofs.StmtSteps.{run-store, run-store_small, runs-first}
 use Rattle.wrapper_run.specs.Inward.{CallsNothing}
+use Rattle.wrapper_run.proofs.StmtSteps.{run-store, run-store_small, runs-first}
 use Rattle.wrapper_run.proofs.InwardCalls.{stmts_quiet}
 use Rattle.abi_bindgen.specs.declared.instruction.Instruction.{Instruction}
 use Rattle.abi_bindgen.specs.declared.instruction.Instruction.TheVariants.{F32Store, F64Store, I32Store, I32Store8, I32Store16, I64Store, LengthStore, PointerStore}

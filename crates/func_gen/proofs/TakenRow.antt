@@ -39,6 +39,7 @@ use Rattle.wrapper_values.specs.Setting.{Setting, failed, fails}
 use Rattle.wrapper_run.specs.Blocks.{lift_buffer, lift_text, own, own_block, owned_bytes, owner_of, take_over, tested}
 use Rattle.wrapper_run.specs.Memory.{block_at, block_from, bytes_from, is_at}
 use Rattle.wrapper_run.specs.Run.{apply, call_callee, call_runtime, eval, run_stmts, runtime_item_named}
+use Rattle.wrapper_run.specs.Inward.{CallsNothing}
 use Rattle.wrapper_run.proofs.GiveSteps.{let_runs}
 use Rattle.wrapper_run.proofs.HeapLemmas.{begins}
 use Rattle.wrapper_run.proofs.InwardCalls.{stmts_quiet}
@@ -46,7 +47,6 @@ use Rattle.wrapper_run.proofs.LocalLemmas.{reads-new}
 use Rattle.wrapper_run.proofs.OwningLemmas.{buffer-text, owned-block, owned-empty}
 use Rattle.wrapper_run.proofs.StmtSteps.{runs-let}
 use Rattle.wrapper_run.proofs.TakeLemmas.{raw_gives}
-use Rattle.wrapper_run.specs.Inward.{CallsNothing}
 use Rattle.abi_bindgen.specs.Account.{Account, Follows, Got, Outcome, Peer, Stopped, Taken, addresses, failing, gives as lawful, found as law_found, taking, tested as law_tested}
 use Rattle.abi_bindgen.specs.declared.instruction.Instruction.TheVariants as instruction
 use Rattle.abi_bindgen.specs.Instructions.{Emits}

@@ -19,11 +19,11 @@ use Rattle.wrapper_values.specs.Owning.{owned, owned_by}
 use Rattle.wrapper_values.specs.Setting.{Setting}
 use Rattle.wrapper_run.specs.Blocks.{box_buffer, boxed, release_all}
 use Rattle.wrapper_run.specs.Run.{eval, run_stmts}
+use Rattle.wrapper_run.specs.Inward.{CallsNothing}
 use Rattle.wrapper_run.proofs.GiveSteps.{eval-boxed}
 use Rattle.wrapper_run.proofs.InwardCalls.{stmts_quiet}
 use Rattle.wrapper_run.proofs.OwningLemmas.{buffer-text, owned-lent}
 use Rattle.wrapper_run.proofs.StepLemmas.{eval-local}
-use Rattle.wrapper_run.specs.Inward.{CallsNothing}
 use Rattle.abi_bindgen.specs.Account.{Account, Done, Follows, Got, Outcome, Stopped, Stuck, account_in, addresses, releasing}
 use Rattle.abi_bindgen.specs.declared.instruction.Instruction.TheVariants.{StringLower}
 use Rattle.abi_bindgen.specs.Instructions.{Emits}

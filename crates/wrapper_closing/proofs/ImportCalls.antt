@@ -28,8 +28,8 @@ use Rattle.wrapper_values.specs.declared.state.State.{State}
 use Rattle.wrapper_values.specs.Act as machine
 use Rattle.wrapper_values.specs.Setting.{Setting}
 use Rattle.wrapper_run.specs.Run.{answer_and_leave, run_fn, run_stmts, run_tail}
-use Rattle.wrapper_run.proofs.StmtSteps.{runs-code}
 use Rattle.wrapper_run.specs.Inward.{CallsNothing}
+use Rattle.wrapper_run.proofs.StmtSteps.{runs-code}
 use Rattle.wrapper_run.proofs.QuietActs.{calls_at, quiet_answers, quiet_pure}
 use Rattle.abi_bindgen.specs.Account.{Call, Peer, account_in}
 use Rattle.abi_bindgen.specs.Area.{SameArea}

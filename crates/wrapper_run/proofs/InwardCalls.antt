@@ -1,5 +1,5 @@
 -- Inward code makes no call.
-use Rattle.std.proofs.Common.{Bool, List, None, Option, Some, [], false, map, true, ◌∷◌, ◌≡◌}
+use Rattle.std.proofs.Common.{◌≡◌, Bool, true, false, List, [], ◌∷◌, map, Option, None, Some}
 use Rattle.wit_model.specs.Bytes.{Bytes}
 use Rattle.rust_tree.specs.declared.expr.Expr.{Expr}
 use Rattle.rust_tree.specs.declared.pattern.ArmPattern.{ArmPattern}

@@ -24,10 +24,10 @@ use Rattle.wit_model.specs.Bytes.{Bytes}
 use Rattle.wrapper_values.specs.Owning.{listed, taken_by}
 use Rattle.wrapper_run.specs.Run.{record_call}
 use Rattle.wrapper_values.specs.Setting.{Setting, stuck}
+use Rattle.wrapper_run.specs.Inward.{CallsNothing}
 use Rattle.wrapper_run.proofs.NumberLemmas.{answered-unit}
 use Rattle.wrapper_run.proofs.TypedLemmas.{answered_in}
 use Rattle.wrapper_run.proofs.OwningLemmas.{ArePlain, drops_plain}
-use Rattle.wrapper_run.specs.Inward.{CallsNothing}
 use Rattle.wrapper_run.proofs.QuietActs.{calls_at, quiet_or_stop}
 
 -- a scope inside another

@@ -39,11 +39,11 @@ use Rattle.wrapper_run.specs.Entries.{ExportNames}
 use Rattle.wrapper_run.specs.ExportRun.{call_inside, core_answer, ended_export, keep_result, run_export_fn, run_export_item, run_to_words, take_value}
 use Rattle.wrapper_run.specs.Run.{begin, give_and_leave, setting_of}
 use Rattle.wrapper_values.specs.Setting.{Setting}
+use Rattle.wrapper_run.specs.Inward.{CallsNothing}
 use Rattle.wrapper_run.proofs.FreeSteps.{unit_words}
 use Rattle.wrapper_run.proofs.MethodLemmas.{ended-words, leaves_inner, method_gives, quiet_taken, returned-unit, value_gives}
 use Rattle.wrapper_run.proofs.OwningLemmas.{owned-unit}
 use Rattle.wrapper_run.proofs.StepLemmas.{gives_plain}
-use Rattle.wrapper_run.specs.Inward.{CallsNothing}
 use Rattle.wrapper_run.proofs.QuietActs.{quiet_drop, quiet_give, quiet_leave, quiet_pure, quiet_then}
 use Rattle.wrapper_faithful.specs.Export.{IsExportFaithful, RunOfExport, bill_of}
 use Rattle.wrapper_faithful.specs.Passed.{Passed}

@@ -38,6 +38,7 @@ use Rattle.wrapper_values.specs.declared.state.State.{State}
 use Rattle.wrapper_values.specs.declared.state.Val.TheVariants as val
 use Rattle.wrapper_values.specs.Act.{Act, Done, ◌>>=◌, ◌>>◌, and_then}
 use Rattle.rust_tree.specs.declared.stmt.Stmt.{Stmt}
+use Rattle.wrapper_run.specs.Inward.{CallsNothing}
 use Rattle.wrapper_run.proofs.StmtSteps.{run-import, runs-code, runs-expr, runs-first}
 use Rattle.wrapper_run.specs.Code.{code_of}
 use Rattle.wrapper_run.specs.Blocks.{drop_value, free_all}
@@ -47,7 +48,6 @@ use Rattle.wrapper_values.specs.Setting.{Setting}
 use Rattle.wrapper_run.proofs.NumberLemmas.{answered-unit}
 use Rattle.wrapper_run.proofs.OwningLemmas.{ArePlain, owned-unit}
 use Rattle.wrapper_run.proofs.StepLemmas.{answers_plain, call_gives, ended-calls, import_gives, no_answer_gives}
-use Rattle.wrapper_run.specs.Inward.{CallsNothing}
 use Rattle.wrapper_run.proofs.QuietActs.{quiet_answer, quiet_answers, quiet_drop, quiet_pure, quiet_then}
 use Rattle.wrapper_faithful.specs.Arguments.{AreArguments}
 use Rattle.wrapper_faithful.specs.Import.{AnswersHonestly, IsFaithful, RunOfImport}
