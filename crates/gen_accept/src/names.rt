@@ -21,6 +21,7 @@ use crate::type_scopes::{push_field_scopes, push_member_scopes};
 use rust_tree::to_rust_ident;
 use std::alloc::Global;
 use type_defs::{defined_types, type_name};
+use type_facts::Types;
 use wit_layout::AbiVariant;
 use wit_model::{
     Function, List, OutOfMemory, Param, Resolve, Text, TypeDef, TypeDefKind, World, WorldId,
@@ -490,6 +491,7 @@ pub(crate) fn declared_names(
     requires listed { are_listed_well resolve.now ≡ true }
     ensures { IfOk result (λ scopes. scopes ≡ declared_names opts.now resolve.now world.now) }
 {
-    let defined = defined_types(alloc, opts.type_opts(), resolve, id, world)?;
+    let facts = Types::analyze(alloc, resolve, id)?;
+    let defined = defined_types(alloc, opts.type_opts(), resolve, &facts, world)?;
     scopes_of(alloc, resolve, world, defined.as_slice())
 }

@@ -155,26 +155,25 @@ fn push_type(
     Ok(())
 }
 
-/// The definitions of the types that a world lists itself, in its order. `OutOfMemory` comes where there is no memory for a definition,
-/// or for a mark for each type, and where they would print more than 2^27 types: that is counted before one of them is made.
+/// The definitions of the types that a world lists itself, in its order, by the facts of the types in this world. `OutOfMemory` comes where
+/// there is no memory for a definition, or for a mark for each type, and where they would print more than 2^27 types: that is counted before one of them is made.
 pub fn definitions_of(
     alloc: Global,
     opts: TypeOpts,
     resolve: &Resolve,
-    id: WorldId,
+    facts: &Types,
     world: &World,
 ) -> Result<List<TypeItem>, OutOfMemory>
-    requires { AreDefinable opts resolve.now id world.now }
-    ensures { IfOk result (AreDefinitions opts resolve.now id world.now) }
+    requires { (id : WorldId) × AreDefinable opts resolve.now id world.now × IsAnalysis resolve.now id facts.now }
+    ensures { IfOk result (λ items. (id : WorldId) → IsAnalysis resolve.now id facts.now → AreDefinitions opts resolve.now id world.now items) }
 {
     let ids = types_in(alloc, world.imports.as_slice())?;
-    let facts = Types::analyze(alloc, resolve, id)?;
-    if !print_few(alloc, opts, resolve, &facts, ids.as_slice())? {
+    if !print_few(alloc, opts, resolve, facts, ids.as_slice())? {
         return Err(OutOfMemory);
     }
     let mut items = List::new(alloc);
     for own in ids.as_slice() {
-        push_type(alloc, &mut items, opts, resolve, &facts, *own)?;
+        push_type(alloc, &mut items, opts, resolve, facts, *own)?;
     }
     Ok(items)
 }

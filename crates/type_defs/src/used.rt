@@ -1,7 +1,7 @@
 //! Which types are defined in the file of a world, and under which names.
 
 ghost use Rattle.std.specs.Prelude.{◌≡◌, ◌++◌, true, IfOk, OnOk, Some, filter, map, slice_get};
-ghost use Rattle.wit_model.specs.WellFormed.{IsWellFormed};
+ghost use Rattle.type_facts.specs.Facts.{IsAnalysis};
 ghost use Rattle.type_defs.specs.Levels.{are_shallow};
 ghost use Rattle.type_defs.specs.Listing.{are_listed_well};
 ghost use Rattle.type_defs.specs.Modes.{is_wanted};
@@ -38,25 +38,23 @@ fn push_defined<'a>(
     }
 }
 
-/// The types that a world lists and that are defined in its file, in its order: enums and flags types, those that a
-/// function of the world uses, and all where unused types are asked for. `OutOfMemory` comes where there is no memory for a place for each, or for a mark
-/// for each type.
+/// The types that a world lists and that are defined in its file, in its order, by the facts of the types in this world: enums and flags
+/// types, those that a function of the world uses, and all where unused types are asked for. `OutOfMemory` comes where there is no memory
+/// for a place for each.
 pub fn defined_types<'a>(
     alloc: Global,
     opts: TypeOpts,
     resolve: &'a Resolve,
-    id: WorldId,
+    facts: &Types,
     world: &World,
 ) -> Result<Vec<&'a TypeDef>, OutOfMemory>
-    requires well { IsWellFormed resolve.now }
-    requires found { slice_get resolve.now.worlds id.0 ≡ Some world.now }
+    requires analyzed { (id : WorldId) × (slice_get resolve.now.worlds id.0 ≡ Some world.now) × IsAnalysis resolve.now id facts.now }
     requires shallow { are_shallow resolve.now.types ≡ true }
     requires listed { are_listed_well resolve.now ≡ true }
     ensures { IfOk result
         (λ ts. map (λ t. t.now) ts.items ≡ defined_types opts resolve.now world.now) }
 {
     let listed = types_in(alloc, world.imports.as_slice())?;
-    let facts = Types::analyze(alloc, resolve, id)?;
     let mut defined = Vec::new(alloc);
     for own in listed.as_slice() {
         push_defined(&mut defined, opts, facts.get(*own), resolve, *own)?;

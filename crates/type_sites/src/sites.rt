@@ -3,6 +3,7 @@
 ghost use Rattle.std.specs.Prelude.{◌≡◌, ◌||◌, None, Some, true, IfOk, if◌then◌else◌, length, map, slice_get};
 ghost use Rattle.wit_model.specs.WellFormed.{IsWellFormed};
 ghost use Rattle.wit_model.specs.declared.world.World.{World};
+ghost use Rattle.type_facts.specs.Facts.{IsAnalysis, IsAnalyzed};
 ghost use Rattle.rust_tree.specs.Ident.{rust_ident, type_ident};
 ghost use Rattle.type_defs.specs.Levels.{are_shallow};
 ghost use Rattle.type_defs.specs.Modes.{is_used};
@@ -147,20 +148,19 @@ fn site_where(
 }
 
 /// By the number of a type, how it is written if a function of the world uses it. A type that no function uses, or without a name, is
-/// written nowhere. The tables are those that [`wit_model::Resolve::check`] has passed.
+/// written nowhere. The tables are those that [`wit_model::Resolve::check`] has passed, and the facts are those of their types.
 ///
-/// It goes over the table a fixed number of times. `OutOfMemory` comes where there is no memory for a site of each entry and a mark for each
-/// type.
+/// It goes over the table once. `OutOfMemory` comes where there is no memory for a site of each entry.
 pub fn type_sites(
     alloc: Global,
     resolve: &Resolve,
-    id: WorldId,
+    facts: &Types,
 ) -> Result<List<Option<TypeSite>>, OutOfMemory>
-    requires { IsWellFormed resolve.now }
+    requires well { IsWellFormed resolve.now }
+    requires analyzed { IsAnalyzed resolve.now facts.now }
     ensures { IfOk result
-        (λ sites. (world : World) → slice_get resolve.now.worlds id.0 ≡ Some world → are_shallow resolve.now.types ≡ true → sites ≡ type_sites resolve.now world) }
+        (λ sites. (id : WorldId) (world : World) → IsAnalysis resolve.now id facts.now → slice_get resolve.now.worlds id.0 ≡ Some world → are_shallow resolve.now.types ≡ true → sites ≡ type_sites resolve.now world) }
 {
-    let facts = Types::analyze(alloc, resolve, id)?;
     let mut sites = List::new(alloc);
     for (number, entry) in resolve.types.as_slice().iter().enumerate() {
         let info = facts.get(TypeId(number as u32));

@@ -8,7 +8,7 @@ use Rattle.type_sites.proofs.sites.type_sites.Goals as goal
 
 pub overflow_cast-number : goal.overflow_cast-number
 overflow_cast-number c =
-    let short = types_short c.args.resolve.now c.requires.numbered in
+    let short = types_short c.args.resolve.now c.requires.well.numbered in
     let same = ap (λ (ts : List TypeDef). length ts) c.as_slice-entry-items.ensures in
     omega (arith, short, same, c.loop-number-test.true)
 
@@ -26,6 +26,6 @@ loop-number-preserved c = λ id world analyzed found shallow.
     sites-more r world c.loop-number.sites c.push.new.self number entry c.in_ok-site_where.field-0 within at is c.in_ok-push.ensures.ok (c.loop-number.invariant id world analyzed found shallow)
 
 pub returns : goal.returns
-returns c = λ world found shallow.
+returns c = λ id world analyzed found shallow.
     let same = ap (λ (ts : List TypeDef). length ts) c.as_slice-entry-items.ensures in
-    sites-done c.args.resolve.now world c.loop-number.sites c.loop-number.number (omega (arith, same, c.loop-number-test.false)) (c.loop-number.invariant c.args.id world c.in_ok-facts.ensures found shallow)
+    sites-done c.args.resolve.now world c.loop-number.sites c.loop-number.number (omega (arith, same, c.loop-number-test.false)) (c.loop-number.invariant id world analyzed found shallow)
