@@ -18,6 +18,7 @@ use gen_accept::{Opts, functions_in, places_in};
 use rust_tree::{Bindings, FuncPlace, Item, TypeItem, asked_in};
 use std::alloc::Global;
 use type_defs::{definitions_of, one};
+use type_facts::Types;
 use wit_model::{List, OutOfMemory, Resolve, Text, World, WorldId};
 
 fn type_items(alloc: Global, types: List<TypeItem>) -> Result<List<Item>, OutOfMemory>
@@ -42,12 +43,15 @@ fn world_items(
     ensures are { IfOk result (AreItems (IsWritten resolve.now.types (type_sites resolve.now world.now)) (ArePartsWritten resolve.now.types (type_sites resolve.now world.now)) opts.now resolve.now id world.now) }
     ensures order { IfOk result (AskInOrder resolve.now.types (type_sites resolve.now world.now) world.now) }
 {
-    let types = definitions_of(alloc, opts.type_opts(), resolve, id, world)?;
+    let facts = Types::analyze(alloc, resolve, id)?;
+    let types = definitions_of(alloc, opts.type_opts(), resolve, &facts, world)?;
     let mut items = type_items(alloc, types)?;
     let mut asked = asked_in(alloc, items.as_slice())?;
     let exports = functions_in(alloc, world.exports.as_slice())?;
     let exports = exports.as_slice();
-    let areas = push_wrappers(alloc, resolve, id, &mut items, &mut asked, world, exports)?;
+    let areas = push_wrappers(
+        alloc, resolve, &facts, &mut items, &mut asked, world, exports,
+    )?;
     push_trait_and_macro(alloc, resolve, &mut items, world, exports)?;
     push_area(&mut items, areas.as_slice())?;
     push_runtime(alloc, &mut items, asked.as_slice())?;

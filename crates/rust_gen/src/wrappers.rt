@@ -5,6 +5,7 @@ ghost use Rattle.std.specs.List.{AllZip, flat_map};
 ghost use Rattle.wit_model.specs.Distinct.{is_distinct};
 ghost use Rattle.wit_model.specs.IndexRange.{function_in_range};
 ghost use Rattle.wit_model.specs.WellFormed.{IsWellFormed};
+ghost use Rattle.wit_model.specs.declared.name.WorldId.{WorldId};
 ghost use Rattle.rust_tree.specs.declared.export.ExportFn.{ExportFn};
 ghost use Rattle.rust_tree.specs.declared.export.PostReturnFn.{PostReturnFn};
 ghost use Rattle.rust_tree.specs.declared.item.FnItem.{FnItem};
@@ -14,6 +15,7 @@ ghost use Rattle.gen_accept.specs.Area.{needs_return};
 ghost use Rattle.gen_accept.specs.DeclaredNames.{param_idents};
 ghost use Rattle.gen_accept.specs.Emitted.{imported_functions};
 ghost use Rattle.gen_accept.specs.InRange.{AreInRange};
+ghost use Rattle.type_facts.specs.Facts.{IsAnalysis};
 ghost use Rattle.type_defs.specs.Levels.{are_shallow};
 ghost use Rattle.type_defs.specs.ParamType.{HasFacts};
 ghost use Rattle.type_sites.specs.Sites.{type_sites};
@@ -34,7 +36,7 @@ use gen_accept::{functions_in, needs_return};
 use rust_tree::{Item, RuntimeItem, ask_by_signature};
 use std::alloc::Global;
 use type_facts::Types;
-use wit_model::{Function, List, OutOfMemory, Resolve, World, WorldId};
+use wit_model::{Function, List, OutOfMemory, Resolve, World};
 
 /// Puts the wrapper of an imported function behind other items, and what it asks for of `_rt` behind other items of that: by its
 /// signature, and then by its body.
@@ -227,16 +229,15 @@ fn push_exports(
 pub(crate) fn push_wrappers(
     alloc: Global,
     resolve: &Resolve,
-    id: WorldId,
+    facts: &Types,
     items: &mut List<Item>,
     asked: &mut List<RuntimeItem>,
     world: &World,
     exports: &[&Function],
 ) -> Result<List<Asked>, OutOfMemory>
     requires well { IsWellFormed resolve.now }
-    requires found { slice_get resolve.now.worlds id.0 ≡ Some world.now }
+    requires types { (id : WorldId) × (slice_get resolve.now.worlds id.0 ≡ Some world.now) × CanWriteTypes resolve.now id × IsAnalysis resolve.now id facts.now }
     requires shallow { are_shallow resolve.now.types ≡ true }
-    requires types { CanWriteTypes resolve.now id }
     requires imports { AreInRange resolve.now (imported_functions world.now) }
     requires imports_code { HaveCode resolve.now.types (imported_functions world.now) }
     requires imports_write { CanWriteFunctions resolve.now.types (type_sites resolve.now world.now) (imported_functions world.now) }
@@ -248,12 +249,11 @@ pub(crate) fn push_wrappers(
         (λ areas. (is : List (FnItem × List RuntimeItem)) × (es : List (Parts × List RuntimeItem)) × (items.new ≡ (items.old ++ map item.Import (bare is)) ++ flat_map export_items (bare es)) × (areas ≡ flat_map option_to_list (areas_of (bare es))) × (asked.new ≡ (asked.old ++ asked_with is) ++ asked_with es) × AllZip (ImportAsks resolve.now.types (type_sites resolve.now world.now)) (imported_functions world.now) is × AllZip (ExportAsks resolve.now.types (type_sites resolve.now world.now)) (map (λ f. f.now) exports.now) es) }
 {
     let imports = functions_in(alloc, world.imports.as_slice())?;
-    let facts = Types::analyze(alloc, resolve, id)?;
-    let tables = type_tables(alloc, resolve, id)?;
+    let tables = type_tables(alloc, resolve, facts)?;
     push_imports(
         alloc,
         resolve,
-        &facts,
+        facts,
         &tables,
         items,
         asked,

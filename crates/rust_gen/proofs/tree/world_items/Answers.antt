@@ -4,6 +4,7 @@ use Rattle.rust_tree.specs.declared.item.Item.TheVariants as item
 use Rattle.rust_tree.specs.Asked.{asked_in}
 use Rattle.gen_accept.specs.Emitted.{exported_functions, functions_in, imported_functions}
 use Rattle.type_defs.specs.Defined.{AreDefinitions}
+use Rattle.type_defs.specs.DefinedNames.{AreDefinable}
 use Rattle.gen_accept.specs.TypeOpts.{type_opts}
 use Rattle.func_gen.specs.Whole.{IsSmall}
 use Rattle.type_sites.specs.Sites.{type_sites}
@@ -18,19 +19,25 @@ use Rattle.rust_gen.proofs.TreeLemmas.{all-made, own-made}
 use Rattle.rust_gen.proofs.WrapperLemmas.{areas-small}
 use Rattle.rust_gen.proofs.tree.world_items.Goals as goal
 
-pub push_wrappers-requires-clause-types : goal.push_wrappers-requires-clause-types
-push_wrappers-requires-clause-types c = record {
-  sized = c.requires.sized;
-  opts = type_opts c.args.opts.now;
-  world = c.args.world.now;
-  definable = c.requires.types;
-  defined =
-      sites-can-be-defined (type_opts c.args.opts.now) c.args.resolve.now c.args.id c.args.world.now c.in_ok-types.types c.requires.types
-      (subst (λ o. AreDefinitions o c.args.resolve.now c.args.id c.args.world.now c.in_ok-types.types) c.type_opts.ensures c.in_ok-types.ensures);
-}
+pub definitions_of-requires : goal.definitions_of-requires
+definitions_of-requires c = (
+  c.args.id,
+  subst (λ o. AreDefinable o c.args.resolve.now c.args.id c.args.world.now) (sym c.type_opts.ensures) c.requires.types,
+  c.in_ok-facts.ensures,
+)
 
-pub push_wrappers-requires-clause-found : goal.push_wrappers-requires-clause-found
-push_wrappers-requires-clause-found c = c.requires.types.found
+pub push_wrappers-requires-clause-types : goal.push_wrappers-requires-clause-types
+push_wrappers-requires-clause-types c =
+    let known = record {
+      sized = c.requires.sized;
+      opts = type_opts c.args.opts.now;
+      world = c.args.world.now;
+      definable = c.requires.types;
+      defined =
+          sites-can-be-defined (type_opts c.args.opts.now) c.args.resolve.now c.args.id c.args.world.now c.in_ok-types.types c.requires.types
+          (subst (λ o. AreDefinitions o c.args.resolve.now c.args.id c.args.world.now c.in_ok-types.types) c.type_opts.ensures (c.in_ok-types.ensures c.args.id c.in_ok-facts.ensures));
+    } in
+    (c.args.id, c.requires.types.found, known, c.in_ok-facts.ensures)
 
 pub push_wrappers-requires-clause-shallow : goal.push_wrappers-requires-clause-shallow
 push_wrappers-requires-clause-shallow c = c.requires.types.shallow
@@ -92,7 +99,7 @@ returns-clause-are c =
       runtime = runtime_items (asked_order types world o.defs o.imports o.exports);
       are = o.are;
       serves = serves-order types sites world o.defs o.imports o.exports o.wraps o.exported;
-      defined = subst (λ o. AreDefinitions o c.args.resolve.now c.args.id world c.in_ok-types.types) c.type_opts.ensures c.in_ok-types.ensures;
+      defined = subst (λ o. AreDefinitions o c.args.resolve.now c.args.id world c.in_ok-types.types) c.type_opts.ensures (c.in_ok-types.ensures c.args.id c.in_ok-facts.ensures);
       wraps = imports-written types sites (imported_functions world) o.imports o.wraps;
       exported = exports-written types sites (exported_functions world) o.exports o.exported;
     }
