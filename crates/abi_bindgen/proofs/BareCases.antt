@@ -3,15 +3,18 @@ use Rattle.std.proofs.Common.{◌≡◌, ℕ, suc, ◌%◌, ◌^◌, ◌<◌, tr
 use Rattle.std.specs.Int.{w32, cast_signed}
 use Rattle.std.proofs.lemmas.Int.{ints}
 use mathlib.Core.Logic.{inl, inr}
+use Rattle.wit_layout.specs.Extent.{Extent}
 use Rattle.wit_layout.specs.Flat.{slots}
 use Rattle.wit_layout.specs.Sizes.{count}
 use Rattle.wrapper_data.specs.declared.block.Block.{Block}
+use Rattle.wrapper_data.specs.declared.choice.Request.{Request}
 use Rattle.wrapper_data.specs.declared.word.Word.{Word}
 use Rattle.wrapper_meaning.specs.AsWords.{AreLeftOver, CaseSays}
 use Rattle.wrapper_meaning.specs.Direction.{Direction, give, lend, make, take}
 use Rattle.wrapper_meaning.specs.InMemory.{CaseHolds}
 use Rattle.wrapper_meaning.specs.Layout.{layouts}
 use Rattle.wrapper_meaning.specs.Numbers.{is_signed}
+use Rattle.wrapper_meaning.specs.Requests.{case_requests}
 use Rattle.wrapper_meaning.specs.Settled.{settled_case}
 use Rattle.wrapper_meaning.specs.Shape.{bare}
 use Rattle.wrapper_meaning.specs.Value.{Case, case_number}
@@ -63,6 +66,12 @@ pub bare_settled : {A : Type 0} (members : List A) (c : Case (bare members)) →
 bare_settled [] c = elim c [ ]
 bare_settled (x ∷ members) (inl v) = refl
 bare_settled (x ∷ members) (inr c) = ap (λ d. inr d) (bare_settled members c)
+
+-- and nothing is asked for
+pub bare_asks : {A : Type 0} (w : ℕ) (asked : ℕ → Extent → List Request) (members : List A) (c : Case (bare members)) → case_requests w asked (bare members) c ≡ []
+bare_asks w asked [] c = elim c [ ]
+bare_asks w asked (x ∷ members) (inl v) = refl
+bare_asks w asked (x ∷ members) (inr c) = bare_asks w asked members c
 
 -- 3. The number of a case
 

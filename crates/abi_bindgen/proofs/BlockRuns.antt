@@ -2,19 +2,24 @@
 use Rattle.std.proofs.Common.{◌≡◌, ℕ, suc, ◌+◌, List, [], ◌∷◌, ◌++◌, length, reverse, take, drop, zero, Bool, true, false, Some, refl, sym, ap, ◌∙◌, subst, arith, append-nil, append_assoc}
 use Rattle.std.specs.List.{AllByRecursion, flat_map, slice_get}
 use Rattle.std.proofs.lemmas.List.{length-append, length-map, length-reverse, reverse-append}
+use Rattle.wrapper_data.specs.Heap.{is_heap}
 use Rattle.wrapper_data.specs.declared.block.Block.{Block}
+use Rattle.wrapper_data.specs.declared.choice.Request.{Request}
 use Rattle.wrapper_data.specs.declared.word.Word.{Word}
+use Rattle.wrapper_meaning.specs.AsWords.{Saying}
 use Rattle.wrapper_meaning.specs.Items.{SameItems, total}
 use Rattle.wrapper_meaning.specs.Shape.{Shape}
 use Rattle.wrapper_meaning.specs.Value.{Value}
 use Rattle.wrapper_meaning.proofs.PostReturn.{total-append}
-use Rattle.abi_bindgen.specs.Account.{Done, Follows, Got, Outcome, Peer, Stopped, Stops, Stuck, account_in, addresses, releasing}
+use Rattle.abi_bindgen.specs.Account.{Account, Done, Outcome, Peer, Stopped, Stops, Stuck, account_in, addresses}
 use Rattle.abi_bindgen.specs.Arms.{gives_words}
 use Rattle.abi_bindgen.specs.Blocks.{AreFinished, Finishes, IsOfWord, Pushes, Runs, StopsAlike, brought, names, owned_datum}
-use Rattle.abi_bindgen.specs.CaseBlocks.{AddsBlocks, GivesWords}
+use Rattle.abi_bindgen.specs.CaseBlocks.{AddsBlocks, GaveWords}
+use Rattle.abi_bindgen.specs.Early.{Comes}
 use Rattle.abi_bindgen.specs.Instructions.{AddsCode}
-use Rattle.abi_bindgen.specs.Laws.{Adds, After, At, Does, Facts, Grows, Quiet, Sound, StaysUncalled, core_data, ofs}
+use Rattle.abi_bindgen.specs.Laws.{Adds, At, Grows, Quiet, Sound, StaysUncalled, core_data, ofs}
 use Rattle.abi_bindgen.specs.Leaves.{way}
+use Rattle.abi_bindgen.specs.Lowering.{Lowered, LoweredBy, Passes, Releases}
 use Rattle.abi_bindgen.specs.Meaning.{Bound, Ended, Meaning, word}
 use Rattle.abi_bindgen.proofs.BlockSteps.{block_quiet, block_uncalled, one_block_more, same_code, same_opened, same_slot}
 use Rattle.abi_bindgen.proofs.Runs.{stops_same}
@@ -171,33 +176,35 @@ module _ {Self Operand : Type 0} (m : Meaning Self Operand) (sound : Sound m) (a
   begun w p s = ap (λ code. m.does w p code s) open_block.code ∙ sound.nothing w p s
 
   -- its code passes a payload on as words; so does the block
-  module _ (with : Bound m.Item) (own : List Block) (ws : List Word) (len : length ws ≡ length os) (owned : SameItems (brought m with) (addresses own))
-      (does : Does m (Unit {0}) b c (names m open_block.slot with) (λ f. releasing (addresses own)) (λ u fs. fs ≡ ofs m os (core_data m ws)) (λ u. []) (λ u. addresses own)) where
-    module _ (w : m.World) (p : Peer m.Item) (later : Self) (before s : m.State) (sv : m.serves w d) (hb : m.denotes w a [] before) (hs : m.denotes w later [] s) where
-      abbrev Inner : Got m.Item (Unit {0}) → m.State → Type 0
-      Inner x t = (outs : Facts m) × (outs ≡ ofs m os (core_data m ws)) × After m w c (outs ++ []) [] (addresses own) (m.enter open_block.slot with s) x t
+  module _ (realloc : Bool) (Say : Saying) (with : Bound m.Item) (own : List Block) (due : List Request) (owned : SameItems (brought m with) (addresses own)) (passes : Passes m realloc Say (names m open_block.slot with) own due os b c) where
+    module _ (w : m.World) (p : Peer m.Item) (later : Self) (before s : m.State) (sv : m.serves w d) (hb : m.denotes w a [] before) (hs : m.denotes w later [] s) (left : List ℕ) where
+      abbrev entered : m.State
+      entered = m.enter open_block.slot with s
 
-      abbrev Outer : Got m.Item (Unit {0}) → Ended m.Item m.State → Type 0
-      Outer x e = (e.results ≡ core_data m ws) × (m.account e.state ≡ x.account) × SameItems (m.owns e.state) (m.owns s) × ((b : Self) (facts : Facts m) → m.denotes w b facts s → m.denotes w b facts e.state)
+      abbrev Inner : m.State → Type 0
+      Inner t = Lowered m realloc Say own left due os w c [] entered t
 
-      inner : Follows m.account (releasing (addresses own) (m.account s)) (m.does w p (m.code c) (m.enter open_block.slot with s)) Inner
-      inner =
-          let u0 = m.enter open_block.slot with s in
-          let at : At m w p b c (names m open_block.slot with ++ []) u0 u0 = record { serves = close_block.lasts.serves w sv; done = begun w p u0; holds = open_block.enters w later [] before s with tt hb hs } in
-          subst (λ acc. Follows m.account (releasing (addresses own) acc) (m.does w p (m.code c) u0) Inner) (open_block.account s with) (does w p [] u0 u0 at)
+      abbrev Outer : Ended m.Item m.State → Type 0
+      Outer e = GaveWords m realloc Say own left due (length os) w s e
 
-      by_outcome : (o : Outcome m.Item (Got m.Item (Unit {0}))) → Follows m.account o (m.does w p (m.code c) (m.enter open_block.slot with s)) Inner → Follows (λ e. m.account e.state) o (m.runs w p close_block.block with s) Outer
-      by_outcome (Done x) h =
-          let u0 = m.enter open_block.slot with s in
-          let t = h.0 in
-          let after = h.2.2 in
-          let holds : m.denotes w c (ofs m os (core_data m ws)) t = subst (λ fs. m.denotes w c fs t) (append-nil (ofs m os (core_data m ws))) (subst (λ fs. m.denotes w c (fs ++ []) t) h.2.1 after.denotes) in
-          let nothing_owned : SameItems (m.owns t) (flat_map (owned_datum m) (core_data m ws)) =
-          λ g. omega (arith, after.owns g, total-append g (m.owns t) (addresses own), total-append g (m.owns u0) [], open_block.owns s with g, owned g) ∙ sym (ap (total g) (words_own m ws)) in
-          let e = block_runs.ends w p with s t (core_data m ws) sv h.1 (length-map ws (λ x. word x) ∙ len) holds nothing_owned in
-          (record { results = core_data m ws; state = e.state }, e.runs, (refl, e.account ∙ after.account, e.owns, e.denotes))
-      by_outcome (Stopped e acc) h = subst (λ o. StopsAlike m o (m.runs w p close_block.block with s)) h (block_runs.stops w p with s sv)
-      by_outcome (Stuck acc) h = block_runs.calls w p with s sv ∙ h
+      by_outcome : (o : Outcome m.Item m.State) → m.does w p (m.code c) entered ≡ o → Comes true due (m.account s) o Inner → Comes true due (m.account s) (m.runs w p close_block.block with s) Outer
+      by_outcome (Done t) is h =
+          let ds = core_data m h.ws in
+          let holds : m.denotes w c (ofs m os ds) t = subst (λ fs. m.denotes w c fs t) (append-nil (ofs m os ds)) h.denotes in
+          let nothing_owned : SameItems (m.owns t) (flat_map (owned_datum m) ds) =
+          λ g. omega (arith, h.owns g, total-append g (m.owns t) (addresses own), open_block.owns s with g, owned g) ∙ sym (ap (total g) (words_own m h.ws)) in
+          let e = block_runs.ends w p with s t ds sv is (length-map h.ws (λ x. word x) ∙ h.fits) holds nothing_owned in
+          let after : LoweredBy realloc Say own left due h.ws (m.account s) (m.account e.state) =
+          subst (λ z. LoweredBy realloc Say own left due h.ws (m.account s) z) (sym e.account) (subst (λ z. LoweredBy realloc Say own left due h.ws z (m.account t)) (open_block.account s with) h.lowered) in
+          subst (λ o. Comes true due (m.account s) o Outer) (sym e.runs) (record { ws = h.ws; fits = h.fits; results = refl; lowered = after; owns = e.owns; keeps = e.denotes })
+      by_outcome (Stopped e acc) is h =
+          let stops : m.runs w p close_block.block with s ≡ Stopped e acc = subst (λ o. StopsAlike m o (m.runs w p close_block.block with s)) is (block_runs.stops w p with s sv) in
+          subst (λ o. Comes true due (m.account s) o Outer) (sym stops) h
+      by_outcome (Stuck acc) is h = elim h [ ]
 
-      pub block_passes : GivesWords m w p close_block.block with own ws s
-      block_passes = by_outcome (releasing (addresses own) (m.account s)) inner
+      pub block_passes : is_heap (m.account s).heap ≡ true → Releases (addresses own) (m.account s).taken left → Comes true due (m.account s) (m.runs w p close_block.block with s) Outer
+      block_passes formed goes =
+          let same : m.account s ≡ m.account entered = sym (open_block.account s with) in
+          let at : At m w p b c (names m open_block.slot with ++ []) entered entered = record { serves = close_block.lasts.serves w sv; done = begun w p entered; holds = open_block.enters w later [] before s with tt hb hs } in
+          let run = passes w p [] entered entered left at (subst (λ (z : Account m.Item). is_heap z.heap ≡ true) same formed) (subst (λ (z : Account m.Item). Releases (addresses own) z.taken left) same goes) in
+          by_outcome (m.does w p (m.code c) entered) refl (subst (λ z. Comes true due z (m.does w p (m.code c) entered) Inner) (sym same) run)

@@ -5,6 +5,8 @@ pub mod BlockSteps
 pub mod CaseLowers
 pub mod CastSteps
 pub mod CodeByKind
+pub mod Done
+pub mod EarlyLemmas
 pub mod EnumLowers
 pub mod FlagLowers
 pub mod FlatCode
@@ -12,7 +14,9 @@ pub mod FlowSteps
 pub mod HasList
 pub mod LawInstances
 pub mod LowerSteps
+pub mod LoweredPlainly
 pub mod Ordinary
+pub mod PassSteps
 pub mod Payloads
 pub mod QuietFlows
 pub mod Records

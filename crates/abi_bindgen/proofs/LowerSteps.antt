@@ -1,17 +1,23 @@
 -- Values become words: scalars, texts, and parts.
-use Rattle.std.proofs.Common.{◌≡◌, ℕ, ◌+◌, Bool, true, false, List, [], ◌∷◌, ◌++◌, length, drop, Some, refl, sym, ap, ◌∙◌, subst, arith, ◌≤◌, append_assoc, append-nil}
-use Rattle.std.proofs.lemmas.List.{drop_all, length-append, length-map}
+use Rattle.std.proofs.Common.{◌≡◌, ℕ, zero, suc, ◌+◌, Bool, true, false, List, [], ◌∷◌, ◌++◌, length, drop, Some, refl, sym, ap, ap₂, ◌∙◌, subst, arith, ◌≤◌, append_assoc, append-nil}
+use Rattle.std.proofs.lemmas.List.{drop_all, length-append}
 use Rattle.wit_model.specs.declared.name.TypeId.{TypeId}
 use Rattle.wit_model.specs.declared.types.Field.{Field}
 use Rattle.wit_model.specs.declared.types.TypeDef.{TypeDef}
 use Rattle.wit_model.specs.declared.types.WitType.{WitType}
 use Rattle.wit_model.specs.declared.types.WitType.TheVariants as wit
+use Rattle.wit_layout.specs.Extent.{Extent}
 use Rattle.wit_layout.specs.Flat.{flatten_record, flatten_type}
 use Rattle.wit_layout.specs.Tree.{Scalar}
 use Rattle.wrapper_data.specs.declared.block.Block.{Block}
-use Rattle.wrapper_meaning.specs.AsWords.{PartsSay, SaysScalar, passed_word}
+use Rattle.wrapper_data.specs.declared.word.Word.{Word}
+use Rattle.wrapper_meaning.specs.AsWords.{PartsSay, Says, SaysScalar, passed_word}
+use Rattle.wrapper_meaning.specs.Buffer.{Contents, IsBuffer, IsPlaced}
+use Rattle.wrapper_meaning.specs.Direction.{lend, make}
+use Rattle.wrapper_meaning.specs.InMemory.{TextHolds, text_extent}
 use Rattle.wrapper_meaning.specs.InRange.{AreListed}
 use Rattle.wrapper_meaning.specs.Layout.{layout, layouts}
+use Rattle.wrapper_meaning.specs.Requests.{block_for, part_requests, requests}
 use Rattle.wrapper_meaning.specs.Shape.{Shape, Shapes, shape_of}
 use Rattle.wrapper_meaning.specs.Shape.Shape.{scalar, text, fields, tuple}
 use Rattle.wrapper_meaning.specs.Shape.Shapes.{none, more}
@@ -21,15 +27,17 @@ use Rattle.abi_bindgen.specs.declared.instruction.Instruction.{Instruction}
 use Rattle.abi_bindgen.specs.declared.instruction.Instruction.TheVariants.{RecordLower, StringLower, TupleLower}
 use Rattle.abi_bindgen.specs.Account.{addresses, releasing}
 use Rattle.abi_bindgen.specs.Instructions.{Emits, IsRecord, MakesBy, RowBy, field_shapes, lifted_scalar, lowered_scalar, lowering, shapes_of}
-use Rattle.abi_bindgen.specs.Laws.{Adds, Does, Facts, Sound, core_data, item_data, ofs}
+use Rattle.abi_bindgen.specs.Laws.{Adds, Does, Sound, item_data, ofs}
 use Rattle.abi_bindgen.specs.Leaves.{LowersScalar, way}
-use Rattle.abi_bindgen.specs.Lowers.{LowersAll, LowersFlat, Passes}
+use Rattle.abi_bindgen.specs.Lowering.{Passes, said}
+use Rattle.abi_bindgen.specs.Lowers.{LowersAll, LowersFlat}
 use Rattle.abi_bindgen.specs.Meaning.{Meaning, item, of, word}
-use Rattle.abi_bindgen.specs.Parts.{LowersParts, count}
+use Rattle.abi_bindgen.specs.Parts.{LowersParts, PartsStand, count}
 use Rattle.abi_bindgen.proofs.Ordinary.{adds_of, lowers_ordinary}
 use Rattle.wrapper_meaning.specs.Words.{AreWords}
 use Rattle.abi_bindgen.proofs.WordRanges.{scalar_ranged, text_ranged, words_both}
-use Rattle.abi_bindgen.proofs.Runs.{adds_both, adds_same, addresses_both, core_append, does_both, does_none, ofs_append, stays_then}
+use Rattle.abi_bindgen.proofs.PassSteps.{passes_both, passes_plainly, stays_passes}
+use Rattle.abi_bindgen.proofs.Runs.{adds_both, adds_same, does_none}
 
 -- the scalar of an instruction that was chosen by a type
 pub record IsScalarType (ty : WitType) (i : Instruction) : Type 0 where
@@ -54,20 +62,41 @@ scalar_type wit.String i e = absurd (let h = e in cc)
 scalar_type wit.ErrorContext i e = absurd (let h = e in cc)
 scalar_type (wit.Id id) i e = absurd (let h = e in cc)
 
-says_way : (realloc : Bool) (heap : List Block) (s : Scalar) (v : ScalarValue s) → SaysScalar (way realloc heap) s v (passed_word s v)
-says_way false heap s v = refl
-says_way true heap s v = refl
+says_said : (realloc : Bool) (given : List Block) (s : Scalar) (v : ScalarValue s) → SaysScalar (said realloc given) s v (passed_word s v)
+says_said false given s v = refl
+says_said true given s v = refl
+
+-- what was lent of a text stays where it is
+placed_made : (given : List Block) (address n size : ℕ) (inside : Contents) (own : List Block) → IsPlaced (lend given) true address n size inside own → IsPlaced (make given) true address n size inside own
+placed_made given address zero size inside own h = h
+placed_made given address (suc n) size inside own h = record { block = h.block; offset = h.offset; own = h.own; inner = h.inner; held = h.held; holds = h.holds; all = h.all }
+
+buffer_made : (given : List Block) (address n : ℕ) (e : Extent) (inside : Contents) (own : List Block) → IsBuffer (lend given) true address n e inside own → IsBuffer (make given) true address n e inside own
+buffer_made given address n e inside own h = record { aligned = h.aligned; bounded = h.bounded; placed = placed_made given address n e.bytes inside own h.placed }
+
+text_said : (w : ℕ) (realloc : Bool) (given : List Block) (v : Value text) (ws : List Word) (own : List Block) → Says w (way realloc given) text v ws own → Says w (said realloc given) text v ws own
+text_said w true given v ws own h = h
+text_said w false given v ws own h = record { address = h.address; pair = h.pair; range = h.range; buffer = buffer_made given h.address (length v) text_extent (TextHolds v) own h.buffer }
 
 module _ {Self Operand : Type 0} (m : Meaning Self Operand) (sound : Sound m) (types : List TypeDef) (realloc : Bool) where
+  -- without realloc nothing has blocks of its own
+  pub one_bare : (given : List Block) (t : Shape) (v : Value t) (a : m.Item) (own : List Block) → m.stands (way realloc given) t v a own → realloc ≡ false → own ≡ []
+  one_bare given t v a own st is = sound.bare t v a given own (subst (λ c. m.stands (way c given) t v a own) is st)
+
+  pub parts_bare : (given : List Block) (ts : Shapes) (v : Parts ts) (vals : List m.Item) (own : List Block) → PartsStand m (way realloc given) ts v vals own → realloc ≡ false → own ≡ []
+  parts_bare given none v vals own st is = st.1
+  parts_bare given (more t ts) v vals own st is = st.7 ∙ ap₂ (λ xs ys. xs ++ ys) (one_bare given t v.0 st.0 st.2 st.5 is) (parts_bare given ts v.1 st.1 st.3 st.6 is)
+
   scalar_row : (s : Scalar) (a b : Self) (o r : Operand) → Adds m a b → LowersScalar m s (o ∷ []) (r ∷ []) a b → LowersFlat m realloc (scalar s) o (r ∷ []) a b
   scalar_row s a b o r adds row = record {
     adds = adds;
     fits = refl;
-    ranged = λ heap v ws own listed says. scalar_ranged m.width realloc heap s v ws own listed says;
-    row = λ heap v x own listed st.
-        let q = row (way realloc heap) v x own listed st in
+    ranged = λ given v ws blocks listed says. scalar_ranged m.width realloc given s v ws blocks listed says;
+    asks_nothing = λ v. refl;
+    row = λ given v x own listed st.
+        let q = row (way realloc given) v x own listed st in
         let P : List Block → Type 0 = λ own. Does m (Unit {0}) a b (of o (item x) ∷ []) (λ f. releasing (addresses own)) (λ u fs. fs ≡ of r (word (passed_word s v)) ∷ []) (λ u. []) (λ u. addresses own) in
-        (passed_word s v ∷ [], refl, (passed_word s v, refl, says_way realloc heap s v, q.0), subst P (sym q.0) q.1);
+        passes_plainly m realloc (Says m.width (said realloc given) (scalar s) v) (of o (item x) ∷ []) own (passed_word s v ∷ []) (r ∷ []) a b refl (passed_word s v, refl, says_said realloc given s v, q.0) (subst P (sym q.0) q.1);
   }
 
   scalar_words : (s : Scalar) (a b : Self) (o : Operand) (os : List Operand) → Adds m a b → length os ≡ 1 → LowersScalar m s (o ∷ []) os a b → LowersFlat m realloc (scalar s) o os a b
@@ -86,10 +115,11 @@ module _ {Self Operand : Type 0} (m : Meaning Self Operand) (sound : Sound m) (t
   text_lowers a b o os e = record {
     adds = e.adds;
     fits = e.results;
-    ranged = λ heap v ws own listed says. text_ranged m.width sound.wide realloc heap v ws own says;
-    row = λ heap v x own listed st.
-        let q = e.row heap v x own st in
-        (q.0, ap length q.1.pair ∙ sym e.results, q.1, q.2);
+    ranged = λ given v ws blocks listed says. text_ranged m.width sound.wide realloc given v ws blocks says;
+    asks_nothing = λ v. refl;
+    row = λ given v x own listed st.
+        let q = e.row given v x own st in
+        passes_plainly m realloc (Says m.width (said realloc given) text v) (of o (item x) ∷ []) own q.0 os a b (ap length q.1.pair ∙ sym e.results) (text_said m.width realloc given v q.0 own q.1) q.2;
   }
 
   pub lowers_as : (s t : Shape) (a b : Self) (o : Operand) (os : List Operand) → s ≡ t → LowersFlat m realloc t o os a b → LowersFlat m realloc s o os a b
@@ -102,49 +132,42 @@ module _ {Self Operand : Type 0} (m : Meaning Self Operand) (sound : Sound m) (t
   none_lowers a = record {
     adds = adds_same m a;
     fits = refl;
-    ranged = λ heap v ws own listed says. says.0;
-    row = λ heap v vals own listed st.
-        let P : List m.Item → List Block → Type 0 = λ vals own. Passes m (PartsSay m.width (way realloc heap) none v) (ofs m [] (item_data m vals)) own [] a a in
-        subst (λ vs. P vs own) (sym st.0) (subst (P []) (sym st.1) ([], refl, (refl, refl), does_none m a));
+    ranged = λ given v ws blocks listed says. says.0;
+    asks_nothing = λ v. refl;
+    row = λ given v vals own listed st.
+        let P : List m.Item → List Block → Type 0 = λ vals own. Passes m realloc (PartsSay m.width (said realloc given) none v) (ofs m [] (item_data m vals)) own [] [] a a in
+        let nothing : P [] [] = passes_plainly m realloc (PartsSay m.width (said realloc given) none v) [] [] [] [] a a refl (refl, refl) (does_none m a) in
+        subst (λ vs. P vs own) (sym st.0) (subst (P []) (sym st.1) nothing);
   }
 
   pub more_lowers : (t : Shape) (ts : Shapes) (a b c : Self) (o : Operand) (os parts qs : List Operand) → LowersFlat m realloc t o os a b → LowersAll m realloc ts parts qs b c → LowersAll m realloc (more t ts) (o ∷ parts) (os ++ qs) a c
   more_lowers t ts a b c o os parts qs first later = record {
     adds = adds_both m a b c first.adds later.adds;
     fits = length-append os qs ∙ omega (arith, first.fits, later.fits, length-append (flatten_type (layout t)) (flatten_record (layouts ts)));
-    ranged = λ heap v ws own listed says.
-        let front = first.ranged heap v.0 says.0 says.2 listed.0 says.4 in
-        let back = later.ranged heap v.1 says.1 says.3 listed.1 says.5 in
+    ranged = λ given v ws blocks listed says.
+        let front = first.ranged given v.0 says.0 says.2 listed.0 says.4 in
+        let back = later.ranged given v.1 says.1 says.3 listed.1 says.5 in
         subst (AreWords m.width (flatten_type (layout t) ++ flatten_record (layouts ts))) (sym says.6) (words_both m.width (flatten_type (layout t)) (flatten_record (layouts ts)) says.0 says.1 front back);
-    row = λ heap v vals own listed st.
+    asks_nothing = λ v. ap₂ (λ xs ys. xs ++ ys) (first.asks_nothing v.0) (later.asks_nothing v.1);
+    row = λ given v vals own listed st.
         let x = st.0 in
         let rest = st.1 in
-        let own1 = st.2 in
-        let own2 = st.3 in
-        let P : List m.Item → List Block → Type 0 = λ vals own. Passes m (PartsSay m.width (way realloc heap) (more t ts) v) (ofs m (o ∷ parts) (item_data m vals)) own (os ++ qs) a c in
-        let one = first.row heap v.0 x own1 listed.0 st.5 in
-        let two = later.row heap v.1 rest own2 listed.1 st.6 in
-        let D : List ℕ → Facts m → Type 0 = λ xs fs0. Does m (Unit {0}) a c (of o (item x) ∷ ofs m parts (item_data m rest)) (λ f. releasing xs) (λ u fs. fs ≡ fs0) (λ u. []) (λ u. xs) in
-        let does = does_both m sound a b c (of o (item x) ∷ []) (ofs m parts (item_data m rest)) (ofs m os (core_data m one.0)) (ofs m qs (core_data m two.0)) (addresses own1) (addresses own2) later.adds one.3 two.3 in
-        let len : length (core_data m one.0) ≡ length os = length-map one.0 (λ w. word w) ∙ one.1 in
-        let facts : ofs m os (core_data m one.0) ++ ofs m qs (core_data m two.0) ≡ ofs m (os ++ qs) (core_data m (one.0 ++ two.0)) =
-        sym (ap (ofs m (os ++ qs)) (core_append m one.0 two.0) ∙ ofs_append m os qs (core_data m one.0) (core_data m two.0) len) in
-        let whole : Passes m (PartsSay m.width (way realloc heap) (more t ts) v) (ofs m (o ∷ parts) (item_data m (x ∷ rest))) (own1 ++ own2) (os ++ qs) a c = (
-          one.0 ++ two.0,
-          length-append one.0 two.0 ∙ omega (arith, one.1, two.1, length-append os qs),
-          (one.0, two.0, own1, own2, one.2, two.2, refl, refl),
-          subst (λ xs. D xs (ofs m (os ++ qs) (core_data m (one.0 ++ two.0)))) (sym (addresses_both own1 own2)) (subst (D (addresses own1 ++ addresses own2)) facts does),
-        ) in
+        let dir = said realloc given in
+        let due1 = requests m.width block_for t v.0 in
+        let due2 = part_requests m.width block_for ts v.1 in
+        let P : List m.Item → List Block → Type 0 = λ vals own. Passes m realloc (PartsSay m.width dir (more t ts) v) (ofs m (o ∷ parts) (item_data m vals)) own (due1 ++ due2) (os ++ qs) a c in
+        let whole : P (x ∷ rest) (st.2 ++ st.3) = passes_both m realloc sound (Says m.width dir t v.0) (PartsSay m.width dir ts v.1) (of o (item x) ∷ []) (ofs m parts (item_data m rest)) st.2 st.3 due1 due2 os qs a b c
+        (parts_bare given ts v.1 rest st.3 st.6) later.adds (first.row given v.0 x st.2 listed.0 st.5) (later.row given v.1 rest st.3 listed.1 st.6) in
         subst (λ vs. P vs own) (sym st.4) (subst (P (x ∷ rest)) (sym st.7) whole);
   }
 
   -- what a value becomes by its parts
   parts_row : (ts : Shapes) (t : Shape) (whole : Parts ts → Value t) (a b c : Self) (o : Operand) (parts os : List Operand) → LowersParts m ts t whole (o ∷ []) parts a b → LowersAll m realloc ts parts os b c
-      → (heap : List Block) (v : Parts ts) (x : m.Item) (own : List Block) → AreListed ts v → m.stands (way realloc heap) t (whole v) x own → Passes m (PartsSay m.width (way realloc heap) ts v) (ofs m (o ∷ []) (item x ∷ [])) own os a c
-  parts_row ts t whole a b c o parts os row later heap v x own listed st =
-      let r = row (way realloc heap) v x own st in
-      let all = later.row heap v r.0 own listed r.1 in
-      (all.0, all.1, all.2, stays_then m a b c (of o (item x) ∷ []) (ofs m parts (item_data m r.0)) (ofs m os (core_data m all.0)) (addresses own) later.adds r.2 all.3)
+      → (given : List Block) (v : Parts ts) (x : m.Item) (own : List Block) → AreListed ts v → m.stands (way realloc given) t (whole v) x own
+      → Passes m realloc (PartsSay m.width (said realloc given) ts v) (ofs m (o ∷ []) (item x ∷ [])) own (part_requests m.width block_for ts v) os a c
+  parts_row ts t whole a b c o parts os row later given v x own listed st =
+      let r = row (way realloc given) v x own st in
+      stays_passes m realloc (PartsSay m.width (said realloc given) ts v) (of o (item x) ∷ []) (ofs m parts (item_data m r.0)) own (part_requests m.width block_for ts v) os a b c later.adds r.2 (later.row given v r.0 own listed r.1)
 
   pub record_lowers : (id : TypeId) (members : List Field) (a b c : Self) (o : Operand) (parts os : List Operand) → IsRecord types id.0 members → Emits m types (RecordLower id) (o ∷ []) parts a b
       → LowersAll m realloc (field_shapes types members) parts os b c → LowersFlat m realloc (fields (field_shapes types members)) o os a c
@@ -152,6 +175,7 @@ module _ {Self Operand : Type 0} (m : Meaning Self Operand) (sound : Sound m) (t
     adds = adds_both m a b c e.adds later.adds;
     fits = later.fits;
     ranged = later.ranged;
+    asks_nothing = later.asks_nothing;
     row = parts_row (field_shapes types members) (fields (field_shapes types members)) (λ v. v) a b c o parts os (e.row members is) later;
   }
 
@@ -161,6 +185,7 @@ module _ {Self Operand : Type 0} (m : Meaning Self Operand) (sound : Sound m) (t
     adds = adds_both m a b c e.adds later.adds;
     fits = later.fits;
     ranged = later.ranged;
+    asks_nothing = later.asks_nothing;
     row = parts_row ts (tuple ts) (λ v. v) a b c o parts os (e.row ts is) later;
   }
 

@@ -1,24 +1,29 @@
 -- What the blocks do by which the cases of a type become core words, and core words become cases.
-use Rattle.std.specs.Prelude.{◌≡◌, ℕ, suc, ◌+◌, pos, Bool, List, [], ◌∷◌, ◌++◌, length, replicate, reverse, Option, Some, slice_get}
+use Rattle.std.specs.Prelude.{◌≡◌, ℕ, suc, ◌+◌, pos, Bool, true, List, [], ◌∷◌, ◌++◌, length, replicate, reverse, Option, Some, slice_get}
 use Rattle.wit_model.specs.declared.wasm_type.WasmType.{WasmType}
+use Rattle.wrapper_data.specs.Heap.{is_heap}
 use Rattle.wrapper_data.specs.declared.block.Block.{Block}
+use Rattle.wrapper_data.specs.declared.choice.Request.{Request}
 use Rattle.wrapper_data.specs.declared.word.Word.{Word}
 use Rattle.wrapper_data.specs.declared.word.Word.TheVariants as core
-use Rattle.wrapper_meaning.specs.AsWords.{CaseSays}
+use Rattle.wrapper_meaning.specs.AsWords.{CaseSays, Saying}
 use Rattle.wrapper_meaning.specs.Direction.{take}
 use Rattle.wrapper_meaning.specs.InRange.{IsListedCase}
 use Rattle.wrapper_meaning.specs.Items.{SameItems}
+use Rattle.wrapper_meaning.specs.Requests.{block_for, case_requests}
 use Rattle.wrapper_meaning.specs.Settled.{settled_case}
 use Rattle.wrapper_meaning.specs.Shape.{Shapes}
 use Rattle.wrapper_meaning.specs.Value.{Case, case_number}
 use Rattle.wrapper_meaning.specs.Words.{AreWords}
-use Rattle.abi_bindgen.specs.Account.{Follows, Peer, addresses, releasing}
+use Rattle.abi_bindgen.specs.Account.{Peer, addresses}
 use Rattle.abi_bindgen.specs.Blocks.{AreFinished, Gives}
 use Rattle.abi_bindgen.specs.Cases.{IsPayload, PayloadStands, with_case}
+use Rattle.abi_bindgen.specs.Early.{Comes}
 use Rattle.abi_bindgen.specs.Laws.{Data, Facts, Grows, StaysUncalled, core_data, ofs}
 use Rattle.abi_bindgen.specs.Leaves.{way}
 use Rattle.abi_bindgen.specs.Lifts.{MayTake, took}
-use Rattle.abi_bindgen.specs.Meaning.{Bound, Meaning, with_nothing}
+use Rattle.abi_bindgen.specs.Lowering.{LoweredBy, Releases, said}
+use Rattle.abi_bindgen.specs.Meaning.{Bound, Ended, Meaning, with_nothing}
 use Rattle.abi_bindgen.specs.Parts.{count}
 
 module _ {Self Operand : Type 0} (m : Meaning Self Operand) where
@@ -34,20 +39,36 @@ module _ {Self Operand : Type 0} (m : Meaning Self Operand) where
 
   -- 1. Values become words
 
-  -- a block gives these words, and lets go of these blocks. Outside of it nothing is changed but the account
-  abbrev pub GivesWords : m.World → Peer m.Item → m.Block → Bound m.Item → List Block → List Word → m.State → Type 0
-  GivesWords w p block with own ws s =
-      Follows (λ e. m.account e.state) (releasing (addresses own) (m.account s)) (m.runs w p block with s)
-      (λ x e. (e.results ≡ core_data m ws) × (m.account e.state ≡ x.account) × SameItems (m.owns e.state) (m.owns s) × ((b : Self) (facts : Facts m) → m.denotes w b facts s → m.denotes w b facts e.state))
+  -- words of a case, from a number on: its number, and slots that its payload and those of others share
+  abbrev pub SaysCase : (realloc : Bool) (given : List Block) (ts : Shapes) → Case ts → (first : ℕ) → (slots : List WasmType) → Saying
+  SaysCase realloc given ts c first slots words blocks =
+      (shared : List Word) × (words ≡ core.I32 (pos (first + case_number ts c)) ∷ shared) × AreWords m.width slots shared × CaseSays m.width (said realloc given) ts c shared blocks
+
+  -- a block gave these words, so many, and lets go of what was owned. Outside of it nothing is changed but the account
+  pub record GaveWords (realloc : Bool) (Say : Saying) (own : List Block) (left : List ℕ) (due : List Request) (many : ℕ) (w : m.World) (s : m.State) (e : Ended m.Item m.State) : Type 0 where
+    pub ws : List Word
+    pub fits : length ws ≡ many
+    pub results : e.results ≡ core_data m ws
+    pub lowered : LoweredBy realloc Say own left due ws (m.account s) (m.account e.state)
+    pub owns : SameItems (m.owns e.state) (m.owns s)
+    pub keeps : (b : Self) (facts : Facts m) → m.denotes w b facts s → m.denotes w b facts e.state
+
+  -- from a state in which nothing is needed that operands denote
+  abbrev pub GivesWords : (realloc : Bool) → Saying → (own : List Block) → (due : List Request) → (many : ℕ) → m.World → Peer m.Item → m.Block → Bound m.Item → m.State → Type 0
+  GivesWords realloc Say own due many w p block with s =
+      (left : List ℕ) → is_heap (m.account s).heap ≡ true → Releases (addresses own) (m.account s).taken left
+      → Comes true due (m.account s) (m.runs w p block with s) (GaveWords realloc Say own left due many w s)
 
   -- there is a block for each case, from a number on: run with the payload, it gives the number and the slots
   pub record LowersCases (realloc : Bool) (ts : Shapes) (first : ℕ) (slots : List WasmType) (old new : Self) : Type 0 where
     pub bodies : List m.Block
     pub adds : AddsBlocks bodies (replicate (count ts) (suc (length slots))) old new
-    pub row : (heap : List Block) (c : Case ts) (payload : Option m.Item) (own : List Block) → IsListedCase ts c → PayloadStands m (way realloc heap) ts c payload own →
-        (body : m.Block) × (slice_get bodies (case_number ts c) ≡ Some body) × (shared : List Word) × AreWords m.width slots shared × CaseSays m.width (way realloc heap) ts c shared own
+    -- so far no code is made for what asks for blocks
+    pub asks_nothing : (c : Case ts) → case_requests m.width block_for ts c ≡ []
+    pub row : (given : List Block) (c : Case ts) (payload : Option m.Item) (own : List Block) → IsListedCase ts c → PayloadStands m (way realloc given) ts c payload own →
+        (body : m.Block) × (slice_get bodies (case_number ts c) ≡ Some body)
         × ((w : m.World) (p : Peer m.Item) (later : Self) (before s : m.State) → m.serves w new → m.denotes w old [] before → m.denotes w later [] s
-        → GivesWords w p body (with_case m payload) own (core.I32 (pos (first + case_number ts c)) ∷ shared) s)
+        → GivesWords realloc (SaysCase realloc given ts c first slots) own (case_requests m.width block_for ts c) (suc (length slots)) w p body (with_case m payload) s)
 
   -- 2. Words become values
 

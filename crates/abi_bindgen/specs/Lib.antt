@@ -7,6 +7,7 @@ pub mod CaseBlocks
 pub mod Cases
 pub mod Code
 pub mod Constants
+pub mod Early
 pub mod Entries
 pub mod FixedLists
 pub mod FlagSets
@@ -20,6 +21,7 @@ pub mod Laws
 pub mod Leaves
 pub mod Lifts
 pub mod Lists
+pub mod Lowering
 pub mod Lowers
 pub mod Maps
 pub mod Meaning

@@ -26,12 +26,16 @@ use Rattle.abi_bindgen.specs.Frees.{nowhere}
 use Rattle.abi_bindgen.specs.Laws.{At, Facts, Sound}
 use Rattle.abi_bindgen.specs.Meaning.{Meaning, item, of, word}
 use Rattle.abi_bindgen.specs.Places.{HasRoom, replaced}
-use Rattle.abi_driver.specs.Stores.{LowersToMemory, Releases}
+use Rattle.abi_driver.specs.Stores.{LowersToMemory}
 use Rattle.abi_bindgen.specs.Touches.{reached}
 use Rattle.abi_driver.proofs.AreaHeaps.{contains_last, replaced_items}
-use Rattle.abi_driver.proofs.Done.{is_it, is_there, same_is, without_one}
+use Rattle.abi_bindgen.proofs.Done.{is_it, is_there, same_is, without_one}
 use Rattle.abi_driver.proofs.Replaced.{replaced_formed}
 use Rattle.wrapper_meaning.proofs.PostReturn.{total-append}
+use Rattle.abi_bindgen.specs.Lowering.{Releases}
+use Rattle.abi_driver.proofs.PutSteps.{done_plainly}
+use Rattle.wrapper_meaning.specs.Requests.{block_for, requests}
+use Rattle.wrapper_meaning.specs.InMemory.{Holds}
 
 -- 1. Where the area was placed
 
@@ -188,7 +192,8 @@ module _ {Self Operand : Type 0} (m : Meaning Self Operand) (sound : Sound m) wh
         let pointer : Facts m = of address (word (core.Pointer q)) ∷ [] in
         let twice : m.denotes w middle ((pointer ++ pointer) ++ ((of value (item a) ∷ []) ++ [])) s3 = sound.again w middle address (core.Pointer q) (of value (item a) ∷ []) s3 denotes in
         let at3 : At m w p middle e (of value (item a) ∷ of address (word (core.Pointer q)) ∷ pointer) s0 s3 = record { serves = serves; done = done; holds = sound.swap w middle (pointer ++ pointer) (of value (item a) ∷ []) [] s3 twice } in
-        let ran = stores.row [] v a own listed stands w p pointer s0 s3 q 0 blk let_go.left at3 room let_go.goes in
+        let ran = done_plainly m true (Holds m.width give t v) 0 (elem_size m.width (layout t)) blk 0 own let_go.left e w p pointer s0 s3 (requests m.width block_for t v) (stores.asks_nothing v)
+        (stores.row [] v a own listed stands w p pointer s0 s3 q 0 blk let_go.left at3 room let_go.goes) in
         let now = ran.1 in
         let put = ran.3 in
         let after = ran.4 in

@@ -14,7 +14,7 @@ use Rattle.wrapper_meaning.proofs.NewBlocks.{new_blocks_behind}
 use Rattle.abi_bindgen.specs.Account.{Account, addresses}
 use Rattle.abi_bindgen.specs.Lifts.{MayTake}
 use Rattle.abi_bindgen.specs.Places.{replaced}
-use Rattle.abi_driver.proofs.Done.{is_it}
+use Rattle.abi_bindgen.proofs.Done.{is_it}
 use Rattle.abi_driver.proofs.HonestAnswers.{free_once}
 use Rattle.abi_driver.proofs.Replaced.{byte_there, replaced_others, replaced_same, replaced_there, replaced_twice, split, there_again}
 use Rattle.wrapper_meaning.proofs.PostReturn.{total-append}

@@ -2,7 +2,7 @@
 use Rattle.std.proofs.Common.{◌≡◌, ◌≤◌, ℕ, ◌%◌, ◌^◌, Bool, true, false, if◌then◌else◌, MatchBool, List, [], ◌∷◌, ◌++◌, length, Option, None, Some, refl, sym, ap, ◌∙◌, subst, arith, append-nil}
 use Rattle.std.specs.List.{AllByRecursion}
 use Rattle.wit_model.specs.Size.{alignment_at, bytes_at}
-use Rattle.wit_layout.specs.Extent.{greatest}
+use Rattle.wit_layout.specs.Extent.{greatest, end}
 use Rattle.wit_layout.specs.Sizes.{alignment, elem_size, extents_of}
 use Rattle.wrapper_data.specs.declared.block.Block.{Block}
 use Rattle.wrapper_data.specs.declared.choice.Request.{Request}
@@ -19,7 +19,7 @@ use Rattle.wrapper_meaning.specs.Shape.{Shape, Shapes}
 use Rattle.wrapper_meaning.specs.Shape.Shape.{fields}
 use Rattle.wrapper_meaning.specs.Value.{Parts}
 use Rattle.abi_bindgen.specs.declared.bindgen.Asked.{Asked}
-use Rattle.abi_bindgen.specs.Account.{Account, Done, Got, Peer, releasing}
+use Rattle.abi_bindgen.specs.Account.{Account, Done, Got, Peer}
 use Rattle.abi_bindgen.specs.Area.{AreFor, AreaStands, HoldsRecord, NeedsArea, SameArea, newly, pointing}
 use Rattle.abi_bindgen.specs.Frees.{nowhere}
 use Rattle.abi_driver.specs.Imports.{AreGiven, Lent, PassesArguments, PassesRecord, Points, PointsAtResult}
@@ -29,13 +29,20 @@ use Rattle.abi_bindgen.specs.Meaning.{Meaning, of, word}
 use Rattle.abi_bindgen.specs.Places.{HavePlaces, replaced}
 use Rattle.abi_bindgen.specs.Touches.{reached}
 use Rattle.abi_driver.proofs.AreaHeaps.{contains_last, replaced_items}
-use Rattle.abi_driver.proofs.Done.{does_done}
 use Rattle.abi_driver.proofs.LiftSteps.{follows_done}
 use Rattle.abi_driver.proofs.RecordPlaces.{align_at_width, at_width}
 use Rattle.abi_driver.proofs.Replaced.{replaced_formed}
 use Rattle.abi_bindgen.proofs.Runs.{grows_both, grows_same, quiet_both}
 use Rattle.wrapper_meaning.proofs.PostReturn.{total-append}
 use Rattle.wit_layout.proofs.RecordSteps.{record_behind}
+use Rattle.abi_bindgen.specs.Lowering.{said}
+use Rattle.abi_bindgen.proofs.LoweredPlainly.{passed_plainly}
+use Rattle.wrapper_meaning.specs.Requests.{block_for, part_requests}
+use Rattle.wrapper_meaning.proofs.MadeIsLent.{holds_lent, made_is_lent}
+use Rattle.wrapper_meaning.specs.Buffer.{Contents}
+use Rattle.wrapper_meaning.specs.InMemory.{PartsHold}
+use Rattle.abi_driver.proofs.PutSteps.{done_plainly}
+use Rattle.std.specs.Prelude.{◌+◌, ◌-◌}
 
 abbrev no_words : List Word
 no_words = []
@@ -159,20 +166,20 @@ module _ {Self Operand : Type 0} (m : Meaning Self Operand) (sound : Sound m) wh
     blocks = lowers.adds.blocks;
     fits = subst (λ c. MatchBool c (length os ≡ 1) (length os ≡ length (param_words ts))) (sym few) lowers.fits;
     row = λ w p vs vals given area others s0 s g needs at.
-        let passes = lowers.row given vs vals [] g.listed g.stand in
-        let ran = does_done m (Unit {0}) a b (args m 0 (item_data m vals)) (λ f. releasing []) (λ u fs. fs ≡ ofs m os (core_data m passes.0)) (λ u. []) (λ u. []) passes.3 w p others s0 s at (record { result = tt {0}; account = m.account s }) refl in
+        let ran = passed_plainly m false (PartsSay m.width (said false given) ts vs) (args m 0 (item_data m vals)) [] (part_requests m.width block_for ts vs) os a b (lowers.asks_nothing vs) (lowers.row given vs vals [] g.listed g.stand) w p others s0 s (m.account s).taken at g.formed refl in
+        let lent : PartsSay m.width (lend given) ts vs ran.ws [] = made_is_lent m.width given given ts vs ran.ws [] (λ b there. there) tt ran.says in
         record {
-          ws = passes.0;
+          ws = ran.ws;
           written = area;
           same = same_area area;
-          fits = passes.1;
-          lends = subst (λ c. MatchBool c (LendsRecord m.width given area ts vs passes.0) (PartsSay m.width (lend given) ts vs passes.0 [])) (sym few) passes.2;
+          fits = ran.fits;
+          lends = subst (λ c. MatchBool c (LendsRecord m.width given area ts vs ran.ws) (PartsSay m.width (lend given) ts vs ran.ws [])) (sym few) lent;
           heap = (m.account s).heap;
           formed = g.formed;
           all = g.all;
-          state = ran.0;
-          done = ran.1;
-          after = subst (λ fs. After m w b (fs ++ others) [] [] s (record { result = tt {0}; account = m.account s }) ran.0) ran.2.1 ran.2.2;
+          state = ran.state;
+          done = ran.done;
+          after = ran.after;
         };
   }
 
@@ -202,7 +209,9 @@ module _ {Self Operand : Type 0} (m : Meaning Self Operand) (sound : Sound m) wh
         aligned = subst (λ n. n % 2 ^ (greatest es).grain ≡ 0) (let start : q ≡ reached m q nowhere = omega arith in start) one.aligned;
       } in
       let places1 = subst (λ (z : Account m.Item). HavePlaces m.width ts 0 (reached m q nowhere) blk 0 z.heap) (sym one.account) places in
-      let two = h.stores.row given vs vals [] g.listed g.stand w p (pointer ++ others) s0 one.state q 0 blk (m.account one.state).taken at1 places1 refl in
+      let Held : Contents = PartsHold m.width (said false given) ts vs 0 in
+      let two = done_plainly m false Held (0 + 0) (end (extents_of m.width (layouts ts)) 0 - 0) blk 0 [] (m.account one.state).taken b w p (pointer ++ others) s0 one.state (part_requests m.width block_for ts vs) (h.stores.asks_nothing vs)
+      (h.stores.row given vs vals [] g.listed g.stand w p (pointer ++ others) s0 one.state q 0 blk (m.account one.state).taken at1 places1 refl) in
       let put = two.3 in
       let end = two.4 in
       let now = two.1 in
@@ -218,7 +227,7 @@ module _ {Self Operand : Type 0} (m : Meaning Self Operand) (sound : Sound m) wh
           stands = record {
             aligned = subst (λ n. n % alignment m.width (layout (fields ts)) ≡ 0) (sym put.written.same_address) one.aligned;
             room = omega (arith, fit, put.written.same_size);
-            holds = put.holds;
+            holds = holds_lent given given (λ b there. there) m.width (fields ts) vs now 0 [] put.holds tt;
           };
         });
         heap = record { blocks = replaced now (m.account s).heap.blocks };

@@ -1,23 +1,25 @@
 -- Arguments become words, one after another.
-use Rattle.std.proofs.Common.{◌≡◌, ℕ, suc, ◌+◌, ◌<◌, Option, None, Some, false, List, [], ◌∷◌, ◌++◌, length, drop, refl, sym, ap, ◌∙◌, subst, arith, ◌≤◌, append_assoc, append-nil}
+use Rattle.std.proofs.Common.{◌≡◌, ℕ, suc, ◌+◌, ◌<◌, Option, None, Some, false, List, [], ◌∷◌, ◌++◌, length, drop, refl, sym, ap, ap₂, ◌∙◌, subst, arith, ◌≤◌, append_assoc, append-nil}
 use Rattle.std.specs.Prelude.{IfSome}
-use Rattle.std.proofs.lemmas.List.{drop_all, length-append, length-map}
+use Rattle.std.proofs.lemmas.List.{drop_all, length-append}
 use Rattle.wit_model.specs.declared.types.TypeDef.{TypeDef}
 use Rattle.wit_model.specs.declared.types.WitType.{WitType}
 use Rattle.wit_layout.specs.Flat.{flatten_record, flatten_type}
 use Rattle.wrapper_data.specs.declared.block.Block.{Block}
-use Rattle.wrapper_meaning.specs.AsWords.{PartsSay}
+use Rattle.wrapper_meaning.specs.AsWords.{PartsSay, Says}
 use Rattle.wrapper_meaning.specs.Layout.{layout, layouts}
+use Rattle.wrapper_meaning.specs.Requests.{block_for, part_requests, requests}
 use Rattle.wrapper_meaning.specs.Shape.{Shape, Shapes, shape_of}
 use Rattle.wrapper_meaning.specs.Shape.Shapes.{none, more}
 use Rattle.abi_bindgen.specs.declared.instruction.Instruction.TheVariants.{GetArg}
-use Rattle.abi_bindgen.specs.Account.{addresses, releasing}
 use Rattle.abi_bindgen.specs.Instructions.{Emits, shapes_of}
-use Rattle.abi_bindgen.specs.Laws.{Does, Facts, Sound, args, core_data, item_data, ofs}
-use Rattle.abi_bindgen.specs.Leaves.{way}
-use Rattle.abi_bindgen.specs.Lowers.{LowersArguments, LowersFlat, Passes}
-use Rattle.abi_bindgen.specs.Meaning.{Meaning, arg, item, of, word}
-use Rattle.abi_bindgen.proofs.Runs.{adds_both, adds_same, addresses_both, core_append, does_both, does_none, ofs_append, stays_then}
+use Rattle.abi_bindgen.specs.Laws.{Sound, args, item_data}
+use Rattle.abi_bindgen.specs.Lowering.{Passes, said}
+use Rattle.abi_bindgen.specs.Lowers.{LowersArguments, LowersFlat}
+use Rattle.abi_bindgen.specs.Meaning.{Meaning, arg, item, of}
+use Rattle.abi_bindgen.proofs.LowerSteps.{parts_bare}
+use Rattle.abi_bindgen.proofs.PassSteps.{passes_both, passes_plainly, stays_passes}
+use Rattle.abi_bindgen.proofs.Runs.{adds_both, adds_same, does_none}
 
 -- the numbers of arguments are below their count
 pub within_count : (limit later : Option ℕ) (n i : ℕ) → later ≡ limit → IfSome limit (λ k. k ≡ n) → i < n → IfSome later (λ k. i < k)
@@ -48,9 +50,11 @@ module _ {Self Operand : Type 0} (m : Meaning Self Operand) (sound : Sound m) (t
   no_arguments first a = record {
     adds = adds_same m a;
     fits = refl;
-    row = λ heap v vals own listed st.
-        let P : List m.Item → List Block → Type 0 = λ vals own. Passes m (PartsSay m.width (way false heap) none v) (args m first (item_data m vals)) own [] a a in
-        subst (λ vs. P vs own) (sym st.0) (subst (P []) (sym st.1) ([], refl, (refl, refl), does_none m a));
+    asks_nothing = λ v. refl;
+    row = λ given v vals own listed st.
+        let P : List m.Item → List Block → Type 0 = λ vals own. Passes m false (PartsSay m.width (said false given) none v) (args m first (item_data m vals)) own [] [] a a in
+        let no_words : P [] [] = passes_plainly m false (PartsSay m.width (said false given) none v) [] [] [] [] a a refl (refl, refl) (does_none m a) in
+        subst (λ vs. P vs own) (sym st.0) (subst (P []) (sym st.1) no_words);
   }
 
   argument_and : (t : Shape) (ts : Shapes) (first : ℕ) (a b c d : Self) (o : Operand) (os qs : List Operand) → Emits m types (GetArg first) [] (o ∷ []) a b → LowersFlat m false t o os b c
@@ -58,26 +62,17 @@ module _ {Self Operand : Type 0} (m : Meaning Self Operand) (sound : Sound m) (t
   argument_and t ts first a b c d o os qs read flat later = record {
     adds = adds_both m a b d read.adds (adds_both m b c d flat.adds later.adds);
     fits = length-append os qs ∙ omega (arith, flat.fits, later.fits, length-append (flatten_type (layout t)) (flatten_record (layouts ts)));
-    row = λ heap v vals own listed st.
+    asks_nothing = λ v. ap₂ (λ xs ys. xs ++ ys) (flat.asks_nothing v.0) (later.asks_nothing v.1);
+    row = λ given v vals own listed st.
         let x = st.0 in
         let rest = st.1 in
-        let own1 = st.2 in
-        let own2 = st.3 in
-        let P : List m.Item → List Block → Type 0 = λ vals own. Passes m (PartsSay m.width (way false heap) (more t ts) v) (args m first (item_data m vals)) own (os ++ qs) a d in
-        let one = flat.row heap v.0 x own1 listed.0 st.5 in
-        let two = later.row heap v.1 rest own2 listed.1 st.6 in
-        let D : List ℕ → Facts m → Type 0 = λ xs fs0. Does m (Unit {0}) a d (arg first (item x) ∷ args m (suc first) (item_data m rest)) (λ f. releasing xs) (λ u fs. fs ≡ fs0) (λ u. []) (λ u. xs) in
-        let from = stays_then m a b c (arg first (item x) ∷ []) (of o (item x) ∷ []) (ofs m os (core_data m one.0)) (addresses own1) flat.adds (read.row (item x)) one.3 in
-        let does = does_both m sound a c d (arg first (item x) ∷ []) (args m (suc first) (item_data m rest)) (ofs m os (core_data m one.0)) (ofs m qs (core_data m two.0)) (addresses own1) (addresses own2) later.adds from two.3 in
-        let len : length (core_data m one.0) ≡ length os = length-map one.0 (λ w. word w) ∙ one.1 in
-        let facts : ofs m os (core_data m one.0) ++ ofs m qs (core_data m two.0) ≡ ofs m (os ++ qs) (core_data m (one.0 ++ two.0)) =
-        sym (ap (ofs m (os ++ qs)) (core_append m one.0 two.0) ∙ ofs_append m os qs (core_data m one.0) (core_data m two.0) len) in
-        let whole : Passes m (PartsSay m.width (way false heap) (more t ts) v) (args m first (item_data m (x ∷ rest))) (own1 ++ own2) (os ++ qs) a d = (
-          one.0 ++ two.0,
-          length-append one.0 two.0 ∙ omega (arith, one.1, two.1, length-append os qs),
-          (one.0, two.0, own1, own2, one.2, two.2, refl, refl),
-          subst (λ xs. D xs (ofs m (os ++ qs) (core_data m (one.0 ++ two.0)))) (sym (addresses_both own1 own2)) (subst (D (addresses own1 ++ addresses own2)) facts does),
-        ) in
+        let dir = said false given in
+        let due1 = requests m.width block_for t v.0 in
+        let due2 = part_requests m.width block_for ts v.1 in
+        let P : List m.Item → List Block → Type 0 = λ vals own. Passes m false (PartsSay m.width dir (more t ts) v) (args m first (item_data m vals)) own (due1 ++ due2) (os ++ qs) a d in
+        let from = stays_passes m false (Says m.width dir t v.0) (arg first (item x) ∷ []) (of o (item x) ∷ []) st.2 due1 os a b c flat.adds (read.row (item x)) (flat.row given v.0 x st.2 listed.0 st.5) in
+        let whole : P (x ∷ rest) (st.2 ++ st.3) = passes_both m false sound (Says m.width dir t v.0) (PartsSay m.width dir ts v.1) (arg first (item x) ∷ []) (args m (suc first) (item_data m rest)) st.2 st.3 due1 due2 os qs a c d
+        (parts_bare m sound types false given ts v.1 rest st.3 st.6) later.adds from (later.row given v.1 rest st.3 listed.1 st.6) in
         subst (λ vs. P vs own) (sym st.4) (subst (P (x ∷ rest)) (sym st.7) whole);
   }
 

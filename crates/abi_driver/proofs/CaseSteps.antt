@@ -5,15 +5,16 @@ use Rattle.std.proofs.lemmas.List.{length-reverse, replicate_more, reverse-appen
 use Rattle.wit_model.specs.declared.types.TypeDef.{TypeDef}
 use Rattle.wit_model.specs.declared.types.WitType.{WitType}
 use Rattle.wrapper_meaning.specs.Items.{SameItems, total}
-use Rattle.abi_bindgen.specs.Account.{Done, Peer, Stops, account_in}
+use Rattle.abi_bindgen.specs.Account.{Done, Peer, Stops, account_in, Stopped, Account}
 use Rattle.abi_bindgen.specs.Arms.{arms}
-use Rattle.abi_bindgen.specs.Blocks.{AreFinished, Finishes, Gives, IsOfWord, IsOpen, IsQuiet, Pushes, names, owned_datum}
+use Rattle.abi_bindgen.specs.Blocks.{AreFinished, Finishes, Gives, IsOfWord, IsOpen, IsQuiet, Pushes, names, owned_datum, StopsAlike}
 use Rattle.abi_driver.specs.FinishedBlocks.{AddsBlock, AddsBlocks, AreQuiet, Resumes}
 use Rattle.abi_bindgen.specs.Instructions.{AddsCode, IsSide}
 use Rattle.abi_bindgen.specs.Laws.{Adds, At, Data, Facts, Grows, Quiet, Sound, StaysUncalled, ofs}
 use Rattle.abi_bindgen.specs.Meaning.{Bound, Meaning}
 use Rattle.abi_bindgen.specs.Written.{WritesPart}
 use Rattle.abi_bindgen.proofs.BlockSteps.{block_quiet, one_block_more, same_code, same_opened, same_slot}
+use Rattle.wrapper_data.specs.declared.run.Stop.{Stop}
 
 -- 1. Lists of blocks
 
@@ -214,3 +215,9 @@ module _ {Self Operand : Type 0} (m : Meaning Self Operand) (sound : Sound m) (a
     block_gives w f with s u ds serves done count holds owns =
         let there : m.does w f (m.code c) (m.enter closes.slot with s) ≡ Done u = ap (λ slot. m.does w f (m.code c) (m.enter slot with s)) (same_slot m sound a b c d os opens adds closes) ∙ done in
         closes.runs.ends w f with s u ds serves there count holds owns
+
+    -- and where its code stops, the block does
+    pub block_stops : (w : m.World) (f : Peer m.Item) (with : Bound m.Item) (s : m.State) (e : Stop) (acc : Account m.Item) → m.serves w d → m.does w f (m.code c) (m.enter opens.slot with s) ≡ Stopped e acc → m.runs w f closes.block with s ≡ Stopped e acc
+    block_stops w f with s e acc serves stopped =
+        let there : m.does w f (m.code c) (m.enter closes.slot with s) ≡ Stopped e acc = ap (λ slot. m.does w f (m.code c) (m.enter slot with s)) (same_slot m sound a b c d os opens adds closes) ∙ stopped in
+        subst (λ o. StopsAlike m o (m.runs w f closes.block with s)) there (closes.runs.stops w f with s serves)

@@ -14,7 +14,7 @@ use Rattle.wrapper_data.specs.declared.form.Form.{Form}
 use Rattle.wrapper_data.specs.declared.word.Word.TheVariants as core
 use Rattle.wrapper_meaning.specs.Cells.{HasNumber}
 use Rattle.wrapper_meaning.specs.Direction.{take}
-use Rattle.wrapper_meaning.specs.InMemory.{CaseHolds}
+use Rattle.wrapper_meaning.specs.InMemory.{CaseHolds, Holds}
 use Rattle.wrapper_meaning.specs.Items.{total}
 use Rattle.wrapper_meaning.specs.Settled.{settled}
 use Rattle.wrapper_meaning.specs.Shape.{bare}
@@ -22,12 +22,11 @@ use Rattle.wrapper_meaning.specs.Shape.Shape.{cases}
 use Rattle.wrapper_meaning.specs.Value.{Case, case_number}
 use Rattle.wrapper_meaning.specs.Words.{AreWords}
 use Rattle.abi_bindgen.specs.declared.instruction.Instruction.TheVariants.{EnumLift}
-use Rattle.abi_bindgen.specs.Account.{Account, Got, Peer, addresses, releasing, stay}
+use Rattle.abi_bindgen.specs.Account.{Account, Got, Peer, addresses, stay}
 use Rattle.abi_bindgen.specs.Cases.{LiftsEnum, reading_tag, tag_of}
 use Rattle.abi_bindgen.specs.HasList.{IsKindOf}
 use Rattle.abi_bindgen.specs.Instructions.{Emits}
 use Rattle.abi_bindgen.specs.Laws.{Adds, After, At, Facts, Sound, core_data, ofs}
-use Rattle.abi_bindgen.specs.Leaves.{way}
 use Rattle.abi_bindgen.specs.Lifts.{LiftsFlat, OneStands, took}
 use Rattle.abi_driver.specs.Loads.{Gets, LiftsFromMemory}
 use Rattle.abi_bindgen.specs.Lowers.{LowersFlat}
@@ -35,18 +34,24 @@ use Rattle.abi_bindgen.specs.Meaning.{Meaning, item, of, word}
 use Rattle.abi_bindgen.specs.NumberTouches.{tag_load, tag_store}
 use Rattle.abi_bindgen.specs.Parts.{count}
 use Rattle.abi_bindgen.specs.Places.{IsWritten}
-use Rattle.abi_driver.specs.Stores.{LowersToMemory}
+use Rattle.abi_driver.specs.Stores.{LowersToMemory, Puts}
 use Rattle.abi_bindgen.specs.Touches.{reached}
 use Rattle.abi_bindgen.proofs.BareCases.{bare_holds, bare_settled, case_below, count_bare, no_slots, none_held, none_said, number_ranged, tree_count}
 use Rattle.abi_driver.proofs.Tags.{bare_extent, tag_grain_small, tag_is, tag_kept, tag_loaded}
 use Rattle.abi_bindgen.proofs.EnumLowers.{enum_cases}
-use Rattle.abi_driver.proofs.Done.{does_done, lets_go}
 use Rattle.abi_driver.proofs.LiftSteps.{follows_done}
 use Rattle.abi_driver.proofs.NumberWords.{number_load_adds, number_loaded, number_store_adds, number_stored}
 use Rattle.abi_bindgen.proofs.Runs.{adds_both}
 use Rattle.abi_driver.proofs.Storing.{stored_in}
 use Rattle.abi_driver.proofs.TakingOver.{took_none}
 use Rattle.wrapper_meaning.proofs.PostReturn.{total-append}
+use Rattle.abi_bindgen.specs.Lowering.{said}
+use Rattle.abi_bindgen.proofs.LoweredPlainly.{passed_plainly}
+use Rattle.abi_driver.proofs.PutSteps.{puts_plainly}
+use Rattle.wrapper_meaning.specs.AsWords.{Says}
+use Rattle.wit_layout.specs.Sizes.{elem_size}
+use Rattle.wrapper_meaning.specs.Layout.{layout}
+use Rattle.wrapper_meaning.specs.Requests.{block_for, case_requests}
 
 module _ {Self Operand : Type 0} (m : Meaning Self Operand) (sound : Sound m) (types : List TypeDef) where
   -- 1. Core words
@@ -108,32 +113,33 @@ module _ {Self Operand : Type 0} (m : Meaning Self Operand) (sound : Sound m) (t
       → Emits m types (tag_store (length members) offset) (r ∷ address ∷ []) [] b c → LowersToMemory m realloc (cases (bare members)) o address offset a c
   enum_stores realloc members a b c o r address offset most flat e = record {
     adds = adds_both m a b c flat.adds (number_store_adds m sound types (discriminant_grain (length members)) offset (r ∷ address ∷ []) [] b c e);
-    row = λ heap v x own listed stands w f others s0 st q k blk left at room goes.
+    asks_nothing = flat.asks_nothing;
+    row = λ given v x own listed stands w f others s0 st q k blk left at room goes.
         let g = discriminant_grain (length members) in
         let acc = m.account st in
-        let dir = way realloc heap in
+        let dir = said realloc given in
         let n = case_number (bare members) v in
         let extent = bare_extent m.width members in
         let pointer : Facts m = of address (word (core.Pointer q)) ∷ [] in
-        let p = flat.row heap v x own listed stands in
-        let says = p.2 in
-        let empty : own ≡ [] = none_said m.width dir members v says.0 own says.3 in
         let adds = number_store_adds m sound types g offset (r ∷ address ∷ []) [] b c e in
         let at1 : At m w f a b ((of o (item x) ∷ []) ++ (pointer ++ others)) s0 st = record { serves = adds.grows.serves w at.serves; done = at.done; holds = at.holds } in
-        let one = does_done m (Unit {0}) a b (of o (item x) ∷ []) (λ f. releasing (addresses own)) (λ u fs. fs ≡ ofs m (r ∷ []) (core_data m p.0)) (λ u. []) (λ u. addresses own) p.3 w f (pointer ++ others) s0 st at1
-        (record { result = tt; account = record acc { taken = left } }) (lets_go (addresses own) left acc goes) in
-        let s1 = one.0 in
-        let after1 = one.2.2 in
+        let one = passed_plainly m realloc (Says m.width dir (cases (bare members)) v) (of o (item x) ∷ []) own (case_requests m.width block_for (bare members) v) (r ∷ []) a b (flat.asks_nothing v) (flat.row given v x own listed stands) w f (pointer ++ others) s0 st left at1 room.formed goes in
+        let says = one.says in
+        let empty : own ≡ [] = none_said m.width dir members v says.0 own says.3 in
+        let s1 = one.state in
+        let after1 = one.after in
         let alone : says.0 ≡ [] = subst (λ cs. AreWords m.width cs says.0) (no_slots members) says.2 in
-        let is : one.2.0 ≡ of r (word (core.I32 (pos n))) ∷ [] = one.2.1 ∙ ap (λ ws. ofs m (r ∷ []) (core_data m ws)) (says.1 ∙ ap (λ zs. core.I32 (pos n) ∷ zs) alone) in
+        let is : ofs m (r ∷ []) (core_data m one.ws) ≡ of r (word (core.I32 (pos n))) ∷ [] = ap (λ ws. ofs m (r ∷ []) (core_data m ws)) (says.1 ∙ ap (λ zs. core.I32 (pos n) ∷ zs) alone) in
         let at2 : At m w f b c (of r (word (core.I32 (pos n))) ∷ of address (word (core.Pointer q)) ∷ others) s0 s1 =
-        record { serves = at.serves; done = one.1; holds = subst (λ fs. m.denotes w b (fs ++ (pointer ++ others)) s1) is after1.denotes } in
+        record { serves = at.serves; done = one.done; holds = subst (λ fs. m.denotes w b (fs ++ (pointer ++ others)) s1) is after1.denotes } in
         let same : m.account s1 ≡ record acc { taken = left } = after1.account in
         let below = case_below members v in
         let put = number_stored m sound types g offset r address b c (tag_grain_small (length members)) e (core.I32 (pos n)) (number_ranged n (omega (arith, below, most))) w f others s0 s1 q k blk at2
         (ap (λ (t : Account m.Item). is_heap t.heap) same ∙ room.formed) (subst (λ (t : Account m.Item). Contains t.heap.blocks blk) (sym same) room.there) room.starts
         (omega (arith, room.fits, ap (λ e. e.bytes) extent)) (subst (λ j. reached m q offset % 2 ^ j ≡ 0) (ap (λ e. e.grain) extent) room.aligned) in
-        let after2 = put.5 in (
+        let after2 = put.5 in
+        subst (λ due. Puts m realloc (Holds m.width dir (cases (bare members)) v) k (elem_size m.width (layout (cases (bare members)))) blk k own left due c w f others s0 st) (sym (flat.asks_nothing v))
+        (puts_plainly m realloc (Holds m.width dir (cases (bare members)) v) k (elem_size m.width (layout (cases (bare members)))) blk k own left c w f others s0 st room.formed room.there (
           put.0,
           put.1,
           put.2,
@@ -149,7 +155,7 @@ module _ {Self Operand : Type 0} (m : Meaning Self Operand) (sound : Sound m) (t
             owns = λ g. omega (arith, after1.owns g, after2.owns g, total-append g (m.owns put.0) (addresses own), total-append g (m.owns put.0) [], total-append g (m.owns s1) (addresses own), total-append g (m.owns s1) [], total-append g (m.owns st) []);
             denotes = after2.denotes;
           },
-        );
+        ));
   }
 
   pub enum_loads : (members : List Member) (a b c : Self) (address x r : Operand) (offset : ArchitectureSize) → Emits m types (tag_load (length members) offset) (address ∷ []) (x ∷ []) a b → Adds m b c

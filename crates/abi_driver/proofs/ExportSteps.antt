@@ -28,7 +28,7 @@ use Rattle.wrapper_meaning.specs.Value.{Parts, Result, Value}
 use Rattle.wrapper_meaning.proofs.LayoutIsTree.{signature_is_by_shapes}
 use Rattle.abi_bindgen.specs.declared.bindgen.Asked.{Asked}
 use Rattle.abi_bindgen.specs.declared.instruction.Instruction.TheVariants.{CallInterface, Return}
-use Rattle.abi_bindgen.specs.Account.{Account, Call, Crossing, Done, Follows, Got, Outcome, Peer, account_in, addresses, gives, releasing}
+use Rattle.abi_bindgen.specs.Account.{Account, Call, Crossing, Done, Follows, Got, Outcome, Peer, account_in, addresses, gives}
 use Rattle.abi_bindgen.specs.Area.{AreFor, AreaStands, HoldsRecord, newly, pointing}
 use Rattle.abi_bindgen.specs.Calls.{PassesAsItIs, coming, handing, method_point, result_count}
 use Rattle.abi_driver.specs.Exports.{CallsExport, EndsWithWords, GivesAnswer, GivesWords, HandsBack, IsHonestMethod, PassesItems, Received, StoresAnswer, TakesArgumentsOver, TookOver, argument_words, export_params, handed_on, placing_result}
@@ -40,13 +40,16 @@ use Rattle.abi_bindgen.specs.Meaning.{Meaning, item, of, word}
 use Rattle.abi_bindgen.specs.Parts.{PartsStand}
 use Rattle.abi_driver.proofs.AnswerArea.{StoredThere, follows_known, pointing_is, stored_there}
 use Rattle.abi_driver.proofs.AreaSteps.{last_room}
-use Rattle.abi_driver.proofs.Done.{does_done, lets_go, releases_all}
+use Rattle.abi_bindgen.proofs.Done.{releases_all}
 use Rattle.abi_driver.proofs.ImportSteps.{follows_calls, no_result_record}
 use Rattle.abi_driver.proofs.LiftSteps.{follows_done, stand_count}
 use Rattle.abi_driver.proofs.MethodCalls.{Came, after_answer, came_many, handing_calls, handing_done, live_owners}
 use Rattle.abi_driver.proofs.RecordPlaces.{align_at_width, at_width}
 use Rattle.abi_bindgen.proofs.Runs.{adds_both, adds_same, addresses_both, follows_then, grows_both, ofs_none, quiet_both}
 use Rattle.wrapper_meaning.proofs.PostReturn.{total-append}
+use Rattle.abi_bindgen.proofs.LoweredPlainly.{passed_plainly}
+use Rattle.wrapper_meaning.specs.Requests.{block_for, requests}
+use Rattle.wrapper_meaning.specs.AsWords.{Says}
 
 -- 1. The call
 
@@ -111,30 +114,27 @@ module _ {Self Operand : Type 0} (m : Meaning Self Operand) (sound : Sound m) wh
   lowered_adds (Some t) os rs b c h = h.2.adds
 
   answer_lowered : (r : Option Shape) (os rs : List Operand) (b c : Self) → LowersAnswer m r os rs b c → is_indirect r ≡ false → (v : Result r) (vals : List m.Item) (own : List Block) → IsResult r v → ResultStands m give r v vals own
-      → (w : m.World) (p : Peer m.Item) (s0 s : m.State) → (m.account s).taken ≡ flat_map m.owned vals → At m w p b c (ofs m os (item_data m vals)) s0 s → Lowered r v own rs c w p s0 s
-  answer_lowered None os rs b c h one v vals own good stands w p s0 s taken at =
+      → (w : m.World) (p : Peer m.Item) (s0 s : m.State) → is_heap (m.account s).heap ≡ true → (m.account s).taken ≡ flat_map m.owned vals → At m w p b c (ofs m os (item_data m vals)) s0 s → Lowered r v own rs c w p s0 s
+  answer_lowered None os rs b c h one v vals own good stands w p s0 s formed taken at =
       let at1 = subst (λ x. At m w p b x (ofs m os (item_data m vals)) s0 s) h.1 at in
       subst (λ xs. Lowered None v own xs c w p s0 s) (sym h.0) (subst (λ x. Lowered None v own [] x w p s0 s) (sym h.1) (no_answer v os vals own b w p s0 s stands.0 stands.1 taken at1))
-  answer_lowered (Some t) os rs b c h one v vals own good stands w p s0 s taken at =
+  answer_lowered (Some t) os rs b c h one v vals own good stands w p s0 s formed taken at =
       let o = h.0 in
       let a = stands.0 in
       let acc = m.account s in
-      let flat = h.2.row acc.heap.blocks v a own good.0 stands.2 in
-      let end : Got m.Item (Unit {0}) = record { result = tt {0}; account = record acc { taken = [] } } in
       let all : SameItems acc.taken (addresses own) = λ g. ap (total g) taken ∙ owned_answer (Some t) v vals own stands g in
-      let released : releasing (addresses own) acc ≡ Done end = lets_go (addresses own) [] acc (releases_all (addresses own) acc.taken all) in
       let facts : ofs m os (item_data m vals) ≡ of o (item a) ∷ [] = ap₂ (λ ps xs. ofs m ps (item_data m xs)) h.1 stands.1 in
       let at1 : At m w p b c ((of o (item a) ∷ []) ++ []) s0 s = record { serves = at.serves; done = at.done; holds = subst (λ fs. m.denotes w b fs s) facts at.holds } in
-      let ran = does_done m (Unit {0}) b c (of o (item a) ∷ []) (λ f. releasing (addresses own)) (λ u fs. fs ≡ ofs m rs (core_data m flat.0)) (λ u. []) (λ u. addresses own) flat.3 w p [] s0 s at1 end released in
-      let after = ran.2.2 in
+      let ran = passed_plainly m true (Says m.width give t v) (of o (item a) ∷ []) own (requests m.width block_for t v) rs b c (h.2.asks_nothing v) (h.2.row acc.heap.blocks v a own good.0 stands.2) w p [] s0 s [] at1 formed (releases_all (addresses own) acc.taken all) in
+      let after = ran.after in
       record {
-        state = ran.0;
-        done = ran.1;
-        ws = flat.0;
-        represents = subst (λ q. MatchBool q (ResultInArea m.width give t v flat.0 own []) (ResultInWord m.width give t v flat.0 own [])) (sym one) (flat.2, refl);
+        state = ran.state;
+        done = ran.done;
+        ws = ran.ws;
+        represents = subst (λ q. MatchBool q (ResultInArea m.width give t v ran.ws own []) (ResultInWord m.width give t v ran.ws own [])) (sym one) (ran.says, refl);
         account = after.account;
         owns = λ g. after.owns g ∙ ap (total g) (append-nil (m.owns s));
-        denotes = subst (λ fs. m.denotes w c fs ran.0) (ap (λ fs. fs ++ []) ran.2.1 ∙ append-nil (ofs m rs (core_data m flat.0))) after.denotes;
+        denotes = subst (λ fs. m.denotes w c fs ran.state) (append-nil (ofs m rs (core_data m ran.ws))) after.denotes;
       }
 
   -- or it is stored in the area, which is placed for it
@@ -378,7 +378,7 @@ module _ {Self Operand : Type 0} (m : Meaning Self Operand) (sound : Sound m) wh
           let stands = (back_in v honest).stands in
           let two = answered_so v honest in
           let at3 : At m w p d e (ofs m back (item_data m vals)) s0 two.state = record { serves = serves_e; done = two.done; holds = two.denotes } in
-          let low = answer_lowered r back given d e (lowers_direct r back given d e one lowers) one v vals honest.own honest.good stands w p s0 two.state (ap (λ acc. acc.taken) two.account) at3 in
+          let low = answer_lowered r back given d e (lowers_direct r back given d e one lowers) one v vals honest.own honest.good stands w p s0 two.state (ap (λ (acc : Account m.Item). is_heap acc.heap) two.account ∙ honest.formed) (ap (λ acc. acc.taken) two.account) at3 in
           let out = ofs m given (core_data m low.ws) in
           let at4 : At m w p e z (out ++ []) s0 low.state = record { serves = is.at.serves; done = low.done; holds = subst (λ fs. m.denotes w e fs low.state) (sym (append-nil out)) low.denotes } in
           let end = ended.row (core_data m low.ws) w p [] s0 low.state at4 in

@@ -18,14 +18,14 @@ use Rattle.wrapper_data.specs.declared.word.Word.{Word}
 use Rattle.wrapper_data.specs.declared.word.Word.TheVariants as core
 use Rattle.wrapper_meaning.specs.AsWords.{Says, flag_bits}
 use Rattle.wrapper_meaning.specs.Direction.{take}
-use Rattle.wrapper_meaning.specs.InMemory.{HasWords}
+use Rattle.wrapper_meaning.specs.InMemory.{HasWords, Holds}
 use Rattle.wrapper_meaning.specs.Items.{total}
 use Rattle.wrapper_meaning.specs.Shape.Shape.{flags}
 use Rattle.wrapper_meaning.specs.Words.{AreWords, IsWord, bits_of}
 use Rattle.wrapper_meaning.proofs.HoldsLocally.{flags_within}
 use Rattle.wrapper_meaning.proofs.PostReturn.{total-append}
 use Rattle.abi_bindgen.specs.declared.instruction.Instruction.TheVariants.{FlagsLift}
-use Rattle.abi_bindgen.specs.Account.{Account, Peer, addresses, releasing}
+use Rattle.abi_bindgen.specs.Account.{Account, Peer, addresses}
 use Rattle.abi_bindgen.specs.Code.{beyond, word_place}
 use Rattle.abi_bindgen.specs.FlagSets.{AreFlags, LiftsFlags}
 use Rattle.abi_bindgen.specs.Instructions.{Emits}
@@ -35,7 +35,6 @@ use Rattle.abi_driver.specs.Loads.{Gets, LiftsFromMemory}
 use Rattle.abi_bindgen.specs.Lowers.{LowersFlat}
 use Rattle.abi_bindgen.specs.Meaning.{Meaning, item, of, word}
 use Rattle.abi_driver.specs.Stores.{LowersToMemory}
-use Rattle.abi_driver.proofs.Done.{does_done, lets_go}
 use Rattle.abi_driver.proofs.NumberWords.{AreApart, LoadedOn, StoredBack, kept_bits, loaded_adds, stored_adds, words_loaded, words_stored}
 use Rattle.abi_driver.proofs.PartOffsets.{beyond_at}
 use Rattle.abi_bindgen.proofs.Runs.{adds_both}
@@ -43,6 +42,11 @@ use Rattle.abi_bindgen.proofs.SaysTypes.{words_typed}
 use Rattle.abi_bindgen.proofs.WordCounts.{length_words}
 use Rattle.abi_driver.proofs.Storing.{stored_in, written_in}
 use Rattle.abi_driver.proofs.TakingOver.{took_none}
+use Rattle.abi_bindgen.specs.Lowering.{said}
+use Rattle.abi_bindgen.proofs.LoweredPlainly.{passed_plainly}
+use Rattle.abi_driver.proofs.PutSteps.{puts_plainly}
+use Rattle.wit_layout.specs.Sizes.{elem_size}
+use Rattle.wrapper_meaning.specs.Layout.{layout}
 
 -- 1. How many words there are, and how many bytes each has
 
@@ -150,38 +154,38 @@ module _ {Self Operand : Type 0} (m : Meaning Self Operand) (sound : Sound m) (t
       → StoredBack m types (flags_extent n).grain (place_of offset) address 0 os b c → LowersToMemory m realloc (flags n) o address offset a c
   flags_stores realloc n a b c o address os offset flat stored = record {
     adds = adds_both m a b c flat.adds (stored_adds m sound types (flags_extent n).grain (flags_grain_small n) (place_of offset) address 0 os b c stored);
-    row = λ heap v x own listed stands w f others s0 st q k blk left at room goes.
+    asks_nothing = flat.asks_nothing;
+    row = λ given v x own listed stands w f others s0 st q k blk left at room goes.
         let g = (flags_extent n).grain in
         let small = flags_grain_small n in
         let acc = m.account st in
         let pointer : Facts m = of address (word (core.Pointer q)) ∷ [] in
-        let p = flat.row heap v x own listed stands in
-        let ws = p.0 in
-        let says = p.2 in
         let adds = stored_adds m sound types g small (place_of offset) address 0 os b c stored in
         let at1 : At m w f a b ((of o (item x) ∷ []) ++ (pointer ++ others)) s0 st = record { serves = adds.grows.serves w at.serves; done = at.done; holds = at.holds } in
-        let one = does_done m (Unit {0}) a b (of o (item x) ∷ []) (λ f. releasing (addresses own)) (λ u fs. fs ≡ ofs m os (core_data m ws)) (λ u. []) (λ u. addresses own) p.3 w f (pointer ++ others) s0 st at1
-        (record { result = tt; account = record acc { taken = left } }) (lets_go (addresses own) left acc goes) in
-        let s1 = one.0 in
-        let after1 = one.2.2 in
+        let one = passed_plainly m realloc (Says m.width (said realloc given) (flags n) v) (of o (item x) ∷ []) own [] os a b refl (flat.row given v x own listed stands) w f (pointer ++ others) s0 st left at1 room.formed goes in
+        let ws = one.ws in
+        let says = one.says in
+        let s1 = one.state in
+        let after1 = one.after in
         let same : m.account s1 ≡ record acc { taken = left } = after1.account in
         let at2 : At m w f b c (ofs m os (core_data m ws) ++ (pointer ++ others)) s0 s1 =
-        record { serves = at.serves; done = one.1; holds = subst (λ fs. m.denotes w b (fs ++ (pointer ++ others)) s1) one.2.1 after1.denotes } in
+        record { serves = at.serves; done = one.done; holds = after1.denotes } in
         let many : length os ≡ flag_words n = flat.fits ∙ length_words n in
         let are = each_word m.width (flag_words n) ws says.0 in
-        let put = words_stored m sound types g small (place_of offset) address (bytes_at offset (2 ^ m.width)) (flag_words n) (flags_apart n) (place_told offset) os ws 0 b c p.1 are (omega (arith, many)) stored w f others s0 s1 q k blk at2
+        let put = words_stored m sound types g small (place_of offset) address (bytes_at offset (2 ^ m.width)) (flag_words n) (flags_apart n) (place_told offset) os ws 0 b c one.fits are (omega (arith, many)) stored w f others s0 s1 q k blk at2
         (ap (λ (t : Account m.Item). is_heap t.heap) same ∙ room.formed) (subst (λ (t : Account m.Item). Contains t.heap.blocks blk) (sym same) room.there) room.starts
         (omega (arith, room.fits, flags_within n)) room.aligned in
         let all = put.1 in
         let after2 = put.5 in
         let bits = kept_bits g ws in
-        let has : HasWords all k (2 ^ g) (flag_words n) bits = subst (λ j. HasWords all k (2 ^ g) j bits) many (subst (λ j. HasWords all j (2 ^ g) (length os) bits) (omega arith) put.4) in (
+        let has : HasWords all k (2 ^ g) (flag_words n) bits = subst (λ j. HasWords all k (2 ^ g) j bits) many (subst (λ j. HasWords all j (2 ^ g) (length os) bits) (omega arith) put.4) in
+        puts_plainly m realloc (Holds m.width (said realloc given) (flags n) v) k (elem_size m.width (layout (flags n))) blk k own left c w f others s0 st room.formed room.there (
           put.0,
           all,
           put.2,
           record {
             written = written_in blk all k (flag_words n * 2 ^ g) k (flags_extent n).bytes put.3 (omega arith) (omega (arith, flags_within n));
-            holds = (bits, has, says.1 ∙ sym (flags_kept m.width n ws (p.1 ∙ many) are), says.2);
+            holds = (bits, has, says.1 ∙ sym (flags_kept m.width n ws (one.fits ∙ many) are), says.2);
           },
           record {
             account = after2.account ∙ ap (stored_in all) same;

@@ -30,7 +30,7 @@ use Rattle.abi_bindgen.specs.Meaning.{Meaning, word}
 use Rattle.abi_bindgen.specs.Memory.{freeing}
 use Rattle.abi_bindgen.specs.Served.{Serves, ServesAll}
 use Rattle.abi_bindgen.proofs.BareCases.{no_slots, none_said}
-use Rattle.abi_driver.proofs.Done.{does_done}
+use Rattle.abi_bindgen.proofs.Done.{does_done}
 use Rattle.abi_driver.proofs.Freeing.{freed_both, frees_text, may_after}
 use Rattle.abi_driver.proofs.LiftSteps.{lifted_type}
 use Rattle.abi_bindgen.proofs.Runs.{adds_both, adds_same, core_append, ofs_append}

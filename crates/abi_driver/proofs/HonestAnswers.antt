@@ -20,7 +20,7 @@ use Rattle.wrapper_meaning.proofs.NewBlocks.{new_blocks_behind}
 use Rattle.abi_bindgen.specs.Account.{Account, Call, Reply, have_types, is_taken}
 use Rattle.abi_driver.specs.Imports.{IsHonest, point_of}
 use Rattle.abi_bindgen.specs.Lifts.{AreFree, MayTake}
-use Rattle.abi_driver.proofs.Done.{is_it, same_is}
+use Rattle.abi_bindgen.proofs.Done.{is_it, same_is}
 use Rattle.abi_bindgen.proofs.SaysTypes.{says_typed}
 use Rattle.wrapper_meaning.proofs.PostReturn.{total-append}
 

@@ -52,7 +52,7 @@ use Rattle.abi_bindgen.specs.Code.{passed_count}
 use Rattle.abi_bindgen.specs.WordCount.{word_counts}
 use Rattle.abi_driver.proofs.AreaHeaps.{IsInside, contains_last, may_take_answered, silent_there, written_there}
 use Rattle.abi_driver.proofs.AreaSteps.{Names, ResultPointed, needs_for_parameters, needs_for_result, points_blocks, points_grows, result_pointed}
-use Rattle.abi_driver.proofs.Done.{does_done}
+use Rattle.abi_bindgen.proofs.Done.{does_done}
 use Rattle.abi_driver.proofs.HonestAnswers.{AnswerSays, answer_typed, in_words}
 use Rattle.abi_bindgen.proofs.Runs.{adds_both, adds_same, addresses_both, core_append, ofs_append, ofs_none}
 use Rattle.abi_bindgen.proofs.SaysTypes.{parts_typed, types_both}

@@ -35,7 +35,7 @@ use Rattle.abi_bindgen.specs.Memory.{loading, word_read}
 use Rattle.abi_bindgen.specs.Places.{HasRoom}
 use Rattle.abi_bindgen.specs.ScalarTouches.{scalar_load}
 use Rattle.abi_bindgen.specs.Touches.{LoadsWord, Part, accessed, loads, low_byte, low_half, reached, touch, whole}
-use Rattle.abi_driver.proofs.Done.{does_done}
+use Rattle.abi_bindgen.proofs.Done.{does_done}
 use Rattle.abi_driver.proofs.LeafStores.{at_least, itself}
 use Rattle.abi_bindgen.proofs.Ordinary.{adds_of, touches_ordinary}
 use Rattle.abi_bindgen.proofs.Runs.{adds_both}

@@ -12,9 +12,9 @@ use Rattle.wit_layout.specs.Tree.{Scalar}
 use Rattle.wrapper_data.specs.declared.block.Block.{Block}
 use Rattle.wrapper_data.specs.declared.word.Word.{Word}
 use Rattle.wrapper_data.specs.declared.word.Word.TheVariants as core
-use Rattle.wrapper_meaning.specs.AsWords.{SaysScalar, passed_word}
+use Rattle.wrapper_meaning.specs.AsWords.{SaysScalar, passed_word, Says, Saying}
 use Rattle.wrapper_meaning.specs.Cells.{HasNumber, little}
-use Rattle.wrapper_meaning.specs.InMemory.{stored_bits}
+use Rattle.wrapper_meaning.specs.InMemory.{stored_bits, Holds}
 use Rattle.wrapper_meaning.specs.Items.{SameItems}
 use Rattle.wrapper_meaning.specs.Shape.{shape_of}
 use Rattle.wrapper_meaning.specs.Shape.Shape.{scalar, text}
@@ -23,10 +23,9 @@ use Rattle.wrapper_meaning.proofs.Lists.{some_same}
 use Rattle.wrapper_meaning.proofs.PartPlaces.{aligned_part}
 use Rattle.abi_bindgen.specs.declared.instruction.Instruction.{Instruction}
 use Rattle.abi_bindgen.specs.declared.instruction.Instruction.TheVariants.{LengthStore, PointerStore}
-use Rattle.abi_bindgen.specs.Account.{Account, addresses, releasing}
+use Rattle.abi_bindgen.specs.Account.{Account, addresses}
 use Rattle.abi_bindgen.specs.Instructions.{Emits, MakesBy, RowBy, RowTouch, lifted_scalar, lowered_scalar, lowering}
 use Rattle.abi_bindgen.specs.Laws.{Adds, At, Facts, Sound, core_data, ofs}
-use Rattle.abi_bindgen.specs.Leaves.{way}
 use Rattle.abi_bindgen.specs.Lowers.{LowersFlat}
 use Rattle.abi_bindgen.specs.Meaning.{Meaning, item, of, word}
 use Rattle.abi_bindgen.specs.Memory.{storing}
@@ -34,7 +33,7 @@ use Rattle.abi_bindgen.specs.Places.{IsWritten, replaced}
 use Rattle.abi_bindgen.specs.ScalarTouches.{scalar_store}
 use Rattle.abi_driver.specs.Stores.{LowersToMemory}
 use Rattle.abi_bindgen.specs.Touches.{Part, StoresWord, accessed, low_byte, low_half, reached, stores, touch, whole}
-use Rattle.abi_driver.proofs.Done.{does_done, lets_go}
+use Rattle.abi_bindgen.proofs.Done.{does_done}
 use Rattle.abi_bindgen.proofs.LowerSteps.{scalar_type}
 use Rattle.abi_driver.proofs.Replaced.{replaced_formed}
 use Rattle.abi_bindgen.proofs.Ordinary.{adds_of, touches_ordinary}
@@ -44,6 +43,11 @@ use Rattle.abi_driver.proofs.ScalarsInMemory.{scalar_alignment, scalar_size, sto
 use Rattle.abi_driver.proofs.StoreSteps.{word_again}
 use Rattle.abi_driver.proofs.Storing.{stored_again, stores_in, written_both}
 use Rattle.wrapper_meaning.proofs.PostReturn.{total-append}
+use Rattle.abi_bindgen.specs.Lowering.{said}
+use Rattle.abi_bindgen.proofs.LoweredPlainly.{passed_plainly}
+use Rattle.abi_driver.proofs.PutSteps.{puts_plainly}
+use Rattle.wit_layout.specs.Sizes.{elem_size}
+use Rattle.wrapper_meaning.specs.Layout.{layout}
 
 -- 1. Which store a scalar's is
 
@@ -120,9 +124,9 @@ itself w (inr e) = ap (λ k. 2 ^ k % 2 ^ k) e
 owns_kept : (s s1 u own : List ℕ) → SameItems (s1 ++ own) (s ++ []) → SameItems (u ++ []) (s1 ++ []) → SameItems (u ++ own) (s ++ [])
 owns_kept s s1 u own one two g = omega (arith, one g, two g, total-append g u own, total-append g u [], total-append g s1 own, total-append g s1 [])
 
-said_word : (realloc : Bool) (heap : List Block) (s : Scalar) (v : ScalarValue s) (x : Word) → SaysScalar (way realloc heap) s v x → x ≡ passed_word s v
-said_word false heap s v x h = h
-said_word true heap s v x h = h
+said_word : (realloc : Bool) (given : List Block) (s : Scalar) (v : ScalarValue s) (x : Word) → SaysScalar (said realloc given) s v x → x ≡ passed_word s v
+said_word false given s v x h = h
+said_word true given s v x h = h
 
 module _ {Self Operand : Type 0} (m : Meaning Self Operand) (sound : Sound m) (types : List TypeDef) where
   -- the row of a store
@@ -135,28 +139,29 @@ module _ {Self Operand : Type 0} (m : Meaning Self Operand) (sound : Sound m) (t
       → LowersToMemory m realloc (scalar s) o address offset a c
   scalar_at realloc s a b c o r address offset flat adds store = record {
     adds = adds_both m a b c flat.adds adds;
-    row = λ heap v x own listed stands w f others s0 st q k blk left at room goes.
+    asks_nothing = flat.asks_nothing;
+    row = λ given v x own listed stands w f others s0 st q k blk left at room goes.
         let acc = m.account st in
         let pointer : Facts m = of address (word (core.Pointer q)) ∷ [] in
-        let p = flat.row heap v x own listed stands in
-        let y = p.2.0 in
-        let empty : own ≡ [] = p.2.3 in
+        let Say : Saying = Says m.width (said realloc given) (scalar s) v in
         let at1 : At m w f a b ((of o (item x) ∷ []) ++ (pointer ++ others)) s0 st = record { serves = adds.grows.serves w at.serves; done = at.done; holds = at.holds } in
-        let one = does_done m (Unit {0}) a b (of o (item x) ∷ []) (λ f. releasing (addresses own)) (λ u fs. fs ≡ ofs m (r ∷ []) (core_data m p.0)) (λ u. []) (λ u. addresses own) p.3 w f (pointer ++ others) s0 st at1
-        (record { result = tt; account = record acc { taken = left } }) (lets_go (addresses own) left acc goes) in
-        let s1 = one.0 in
-        let after1 = one.2.2 in
-        let is : one.2.0 ≡ of r (word y) ∷ [] = one.2.1 ∙ ap (λ ws. ofs m (r ∷ []) (core_data m ws)) p.2.1 in
-        let at2 : At m w f b c (ofs m (r ∷ address ∷ []) (word y ∷ word (core.Pointer q) ∷ []) ++ others) s0 s1 = record { serves = at.serves; done = one.1; holds = subst (λ fs. m.denotes w b (fs ++ (pointer ++ others)) s1) is after1.denotes } in
+        let one = passed_plainly m realloc Say (of o (item x) ∷ []) own [] (r ∷ []) a b refl (flat.row given v x own listed stands) w f (pointer ++ others) s0 st left at1 room.formed goes in
+        let y = one.says.0 in
+        let empty : own ≡ [] = one.says.3 in
+        let s1 = one.state in
+        let after1 = one.after in
+        let is : ofs m (r ∷ []) (core_data m one.ws) ≡ of r (word y) ∷ [] = ap (λ ws. ofs m (r ∷ []) (core_data m ws)) one.says.1 in
+        let at2 : At m w f b c (ofs m (r ∷ address ∷ []) (word y ∷ word (core.Pointer q) ∷ []) ++ others) s0 s1 = record { serves = at.serves; done = one.done; holds = subst (λ fs. m.denotes w b (fs ++ (pointer ++ others)) s1) is after1.denotes } in
         let grain = (store_access s).grain in
         let size = scalar_size m.width s in
-        let known : y ≡ passed_word s v = said_word realloc heap s v y p.2.2 in
+        let known : y ≡ passed_word s v = said_word realloc given s v y one.says.2 in
         let stored = stores_in m.width (store_access s) (reached m q offset) (passed_word s v) blk k (record acc { taken = left }) room.formed room.there room.starts (omega (arith, room.fits, size)) (subst (λ n. reached m q offset % n ≡ 0) (scalar_alignment m.width s) room.aligned)
         (at_least m.width sound.wide) (stored_type s v) (stored_ranged s v listed) in
         let all = stored.0 in
         let two = does_done m (Unit {0}) b c (ofs m (r ∷ address ∷ []) (word y ∷ word (core.Pointer q) ∷ [])) (λ f. storing m.width (store_access s) (reached m q offset) y) (λ u fs. fs ≡ []) (λ u. []) (λ u. []) (store y q) w f others s0 s1 at2
         (record { result = tt; account = record acc { taken = left; heap = record { blocks = replaced all acc.heap.blocks } } }) (ap (λ z. storing m.width (store_access s) (reached m q offset) z (m.account s1)) known ∙ ap (storing m.width (store_access s) (reached m q offset) (passed_word s v)) after1.account ∙ stored.1) in
-        let after2 = two.2.2 in (
+        let after2 = two.2.2 in
+        puts_plainly m realloc (Holds m.width (said realloc given) (scalar s) v) k (elem_size m.width (layout (scalar s))) blk k own left c w f others s0 st room.formed room.there (
           two.0,
           all,
           two.1,
@@ -185,28 +190,28 @@ module _ {Self Operand : Type 0} (m : Meaning Self Operand) (sound : Sound m) (t
       → LowersFlat m realloc text o os a b → Emits m types (LengthStore behind) (n ∷ address ∷ []) [] b c → Emits m types (PointerStore offset) (r ∷ address ∷ []) [] c d → LowersToMemory m realloc text o address offset a d
   text_stores realloc a b c d o r n address os offset behind further pair flat lengths pointers = record {
     adds = adds_both m a b d flat.adds (adds_both m b c d lengths.adds pointers.adds);
-    row = λ heap v x own listed stands w f others s0 st q k blk left at room goes.
+    asks_nothing = flat.asks_nothing;
+    row = λ given v x own listed stands w f others s0 st q k blk left at room goes.
         let acc = m.account st in
         let wide = at_least m.width sound.wide in
         let size = 2 ^ m.width in
         let base = reached m q offset in
         let pointer : Facts m = of address (word (core.Pointer q)) ∷ [] in
-        let p = flat.row heap v x own listed stands in
-        let said = p.2 in
-        let place = said.address in
+        let Say : Saying = Says m.width (said realloc given) text v in
+        let at1 : At m w f a b ((of o (item x) ∷ []) ++ (pointer ++ others)) s0 st = record { serves = lengths.adds.grows.serves w (pointers.adds.grows.serves w at.serves); done = at.done; holds = at.holds } in
+        let one = passed_plainly m realloc Say (of o (item x) ∷ []) own [] os a b refl (flat.row given v x own listed stands) w f (pointer ++ others) s0 st left at1 room.formed goes in
+        let says = one.says in
+        let place = says.address in
         let len = length v in
         let first : Facts m = of r (word (core.Pointer place)) ∷ [] in
         let second : Facts m = of n (word (core.Length len)) ∷ [] in
-        let at1 : At m w f a b ((of o (item x) ∷ []) ++ (pointer ++ others)) s0 st = record { serves = lengths.adds.grows.serves w (pointers.adds.grows.serves w at.serves); done = at.done; holds = at.holds } in
-        let one = does_done m (Unit {0}) a b (of o (item x) ∷ []) (λ f. releasing (addresses own)) (λ u fs. fs ≡ ofs m os (core_data m p.0)) (λ u. []) (λ u. addresses own) p.3 w f (pointer ++ others) s0 st at1
-        (record { result = tt; account = record acc { taken = left } }) (lets_go (addresses own) left acc goes) in
-        let s1 = one.0 in
-        let after1 = one.2.2 in
-        let is : one.2.0 ≡ first ++ second = one.2.1 ∙ ap (λ xs. ofs m xs (core_data m p.0)) pair ∙ ap (λ ws. ofs m (r ∷ n ∷ []) (core_data m ws)) said.pair in
+        let s1 = one.state in
+        let after1 = one.after in
+        let is : ofs m os (core_data m one.ws) ≡ first ++ second = ap (λ xs. ofs m xs (core_data m one.ws)) pair ∙ ap (λ ws. ofs m (r ∷ n ∷ []) (core_data m ws)) says.pair in
         let facts : m.denotes w b ((first ++ second) ++ (pointer ++ others)) s1 = subst (λ fs. m.denotes w b (fs ++ (pointer ++ others)) s1) is after1.denotes in
         let doubled : m.denotes w b ((pointer ++ first) ++ (second ++ (pointer ++ others))) s1 = word_again m sound types w b (first ++ second) others address (core.Pointer q) s1 facts in
         let at2 : At m w f b c (ofs m (n ∷ address ∷ []) (word (core.Length len) ∷ word (core.Pointer q) ∷ []) ++ (first ++ (pointer ++ others))) s0 s1 =
-        record { serves = pointers.adds.grows.serves w at.serves; done = one.1; holds = sound.swap w b (pointer ++ first) second (pointer ++ others) s1 doubled } in
+        record { serves = pointers.adds.grows.serves w at.serves; done = one.done; holds = sound.swap w b (pointer ++ first) second (pointer ++ others) s1 doubled } in
         let row1 = store_row (LengthStore behind) whole wasm.Length behind (n ∷ address ∷ []) [] b c refl refl refl lengths in
         let row2 = store_row (PointerStore offset) whole wasm.Pointer offset (r ∷ address ∷ []) [] c d refl refl refl pointers in
         let length_access = accessed m.width whole false wasm.Length in
@@ -228,8 +233,9 @@ module _ {Self Operand : Type 0} (m : Meaning Self Operand) (sound : Sound m) (t
         (record { result = tt; account = record acc1 { heap = record { blocks = replaced all acc1.heap.blocks } } }) (ap (storing m.width pointer_access base (core.Pointer place)) after2.account ∙ put2.1) in
         let s3 = three.0 in
         let after3 = three.2.2 in
-        let short : len < 2 ^ 31 = omega (arith, said.buffer.bounded) in
-        let kept : HasNumber mid (k + size) size len = subst (λ z. HasNumber mid (k + size) size z) (fits_word m.width len sound.wide (low_word m.width len sound.wide short)) put1.3 in (
+        let short : len < 2 ^ 31 = omega (arith, says.buffer.bounded) in
+        let kept : HasNumber mid (k + size) size len = subst (λ z. HasNumber mid (k + size) size z) (fits_word m.width len sound.wide (low_word m.width len sound.wide short)) put1.3 in
+        puts_plainly m realloc (Holds m.width (said realloc given) text v) k (elem_size m.width (layout text)) blk k own left d w f others s0 st room.formed room.there (
           s3,
           all,
           three.1,
@@ -237,9 +243,9 @@ module _ {Self Operand : Type 0} (m : Meaning Self Operand) (sound : Sound m) (t
             written = written_both blk mid all k (2 * size) (k + size) size k size put1.2 put2.2 (omega arith) (omega arith) (omega arith) (omega arith);
             holds = record {
               address = place;
-              pointer = subst (λ z. HasNumber all k size z) (fits_word m.width place sound.wide said.range) put2.3;
+              pointer = subst (λ z. HasNumber all k size z) (fits_word m.width place sound.wide says.range) put2.3;
               counted = (kept.0, ap (option_map little) (put2.2.outside (k + size) size (inr (omega arith))) ∙ kept.1);
-              buffer = said.buffer;
+              buffer = says.buffer;
             };
           },
           record {

@@ -7,6 +7,7 @@ pub mod LiftedArguments
 pub mod ArgumentSteps
 pub mod ExportSteps
 pub mod MethodCalls
+pub mod PutSteps
 pub mod ReadSteps
 pub mod HonestAnswers
 pub mod Instances
@@ -14,7 +15,6 @@ pub mod ImportSteps
 pub mod ReturnSteps
 pub mod SaysLength
 pub mod TakingOver
-pub mod Done
 pub mod Tags
 pub mod Bytes
 pub mod CellWrites

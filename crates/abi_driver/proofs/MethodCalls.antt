@@ -1,5 +1,5 @@
 -- What the call of a method does: it is made, and what it answers comes in.
-use Rattle.std.proofs.Common.{◌≡◌, ◌≤◌, ℕ, ◌+◌, Bool, true, false, not, ◌&&◌, nat_eq, nat_lt, if◌then◌else◌, find, is_some, List, [], ◌∷◌, ◌++◌, length, Option, None, Some, refl, sym, ap, ◌∙◌, subst, arith}
+use Rattle.std.proofs.Common.{◌≡◌, ◌≤◌, ℕ, ◌+◌, Bool, true, false, not, ◌&&◌, nat_eq, nat_lt, if◌then◌else◌, find, is_some, List, [], ◌∷◌, ◌++◌, length, Option, None, Some, refl, ap, ◌∙◌, arith}
 use Rattle.std.specs.Prelude.{option_to_list}
 use Rattle.std.specs.List.{flat_map, list_all}
 use Rattle.std.specs.Option.{option_map}
@@ -18,7 +18,7 @@ use Rattle.abi_bindgen.specs.Account.{Account, Call, Crossing, Done, Got, Outcom
 use Rattle.abi_bindgen.specs.Calls.{are_live, begins_at, coming, handed_over, handing, left_by, method_point, recorded, returned_with}
 use Rattle.abi_driver.specs.Imports.{ResultStands}
 use Rattle.abi_bindgen.specs.Meaning.{Meaning}
-use Rattle.abi_driver.proofs.Done.{is_it, same_is}
+use Rattle.abi_bindgen.proofs.Done.{is_it, same_is}
 use Rattle.abi_driver.proofs.HonestAnswers.{not_taken}
 use Rattle.abi_driver.proofs.ImportSteps.{if_calls}
 use Rattle.wrapper_meaning.proofs.PostReturn.{total-append}

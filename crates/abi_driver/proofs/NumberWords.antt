@@ -31,7 +31,7 @@ use Rattle.abi_bindgen.specs.NumberTouches.{number_load, number_store}
 use Rattle.abi_bindgen.specs.Places.{IsWritten}
 use Rattle.abi_bindgen.specs.Touches.{LoadsWord, StoresWord, low_byte, low_half, reached, whole}
 use Rattle.abi_driver.proofs.Tags.{read_32}
-use Rattle.abi_driver.proofs.Done.{does_done}
+use Rattle.abi_bindgen.proofs.Done.{does_done}
 use Rattle.abi_driver.proofs.LeafLoads.{load_row}
 use Rattle.abi_driver.proofs.LeafStores.{at_least, store_row}
 use Rattle.abi_bindgen.proofs.Runs.{adds_both, adds_same}

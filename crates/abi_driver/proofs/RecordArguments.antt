@@ -1,7 +1,7 @@
 -- The arguments of an export: words that are lifted, or a record that is loaded and then freed.
 use Rattle.std.proofs.Common.{◌≡◌, ◌⊎◌, ◌<◌, ℕ, zero, suc, ◌+◌, ◌-◌, ◌%◌, ◌^◌, ◌||◌, Bool, true, false, nat_eq, nat_lt, if◌then◌else◌, MatchBool, List, [], ◌∷◌, ◌++◌, length, find, None, Some, Contains, refl, sym, ap, ◌∙◌, subst, arith, append-nil}
 use mathlib.Core.Logic.{inl, inr}
-use Rattle.std.proofs.lemmas.Bool.{cond-false, eq-eqb, eqb-true, le-ltb, or_from, or_left, or_parts, or_right, true≢false}
+use Rattle.std.proofs.lemmas.Bool.{cond-false, eqb-true, le-ltb, or_from, or_left, or_parts, true≢false}
 use Rattle.std.proofs.lemmas.List.{length-map}
 use Rattle.std.proofs.lemmas.List.Folds.{list_any-append}
 use Rattle.wit_model.specs.Size.{bytes_at}
@@ -36,7 +36,7 @@ use Rattle.abi_bindgen.specs.Memory.{except, freed, freeing}
 use Rattle.abi_bindgen.specs.Parts.{PartsStand}
 use Rattle.abi_bindgen.specs.Places.{HavePlaces}
 use Rattle.abi_bindgen.specs.Touches.{reached}
-use Rattle.abi_driver.proofs.Done.{does_done}
+use Rattle.abi_bindgen.proofs.Done.{does_done}
 use Rattle.abi_bindgen.proofs.Taken.{last_taken}
 use Rattle.abi_driver.proofs.Freeing.{without_formed}
 use Rattle.abi_driver.proofs.LiftSteps.{stand_count}

@@ -1,14 +1,14 @@
 -- Arguments are read and stored in a record, one after another.
-use Rattle.std.proofs.Common.{◌≡◌, ℕ, suc, ◌+◌, ◌^◌, ◌≤◌, false, List, [], ◌∷◌, ◌++◌, length, drop, refl, sym, ap, ◌∙◌, subst, arith}
+use Rattle.std.proofs.Common.{◌≡◌, ℕ, suc, ◌+◌, ◌^◌, ◌≤◌, false, List, [], ◌∷◌, ◌++◌, length, drop, refl, sym, subst, arith, ◌-◌}
 use Rattle.std.proofs.lemmas.List.{drop_all}
 use Rattle.wit_model.specs.Size.{bytes_at}
 use Rattle.wit_model.specs.declared.size.ArchitectureSize.{ArchitectureSize}
 use Rattle.wit_model.specs.declared.types.TypeDef.{TypeDef}
 use Rattle.wit_model.specs.declared.types.WitType.{WitType}
-use Rattle.wit_layout.specs.Extent.{place}
-use Rattle.wit_layout.specs.Sizes.{elem_size, extent_of}
+use Rattle.wit_layout.specs.Extent.{place, end}
+use Rattle.wit_layout.specs.Sizes.{elem_size, extent_of, extents_of}
 use Rattle.wrapper_data.specs.declared.word.Word.TheVariants as core
-use Rattle.wrapper_meaning.specs.Layout.{layout}
+use Rattle.wrapper_meaning.specs.Layout.{layout, layouts}
 use Rattle.wrapper_meaning.specs.Shape.{Shape, Shapes, shape_of}
 use Rattle.wrapper_meaning.specs.Shape.Shapes.{more}
 use Rattle.abi_bindgen.specs.declared.instruction.Instruction.TheVariants.{GetArg}
@@ -18,11 +18,14 @@ use Rattle.abi_bindgen.specs.Instructions.{Emits, shapes_of}
 use Rattle.abi_bindgen.specs.Laws.{At, Facts, Sound, args, item_data, ofs}
 use Rattle.abi_bindgen.specs.Meaning.{Meaning, arg, item, of, word}
 use Rattle.abi_bindgen.specs.Places.{HavePlaces}
-use Rattle.abi_driver.specs.Stores.{LowersToMemory, Releases, StoresArguments, StoresFrom, by_storing}
+use Rattle.abi_driver.specs.Stores.{LowersToMemory, StoresArguments, StoresFrom}
 use Rattle.abi_bindgen.specs.Touches.{reached}
 use Rattle.abi_bindgen.proofs.Runs.{adds_both}
 use Rattle.abi_driver.proofs.StoreSteps.{behind_of, more_stores, none_stores}
-use Rattle.wrapper_meaning.proofs.PostReturn.{total-append}
+use Rattle.abi_bindgen.specs.Lowering.{Releases, said}
+use Rattle.abi_driver.proofs.PutSteps.{stays_puts}
+use Rattle.wrapper_meaning.specs.Requests.{block_for, part_requests}
+use Rattle.wrapper_meaning.specs.InMemory.{PartsHold}
 
 module _ {Self Operand : Type 0} (m : Meaning Self Operand) (sound : Sound m) (types : List TypeDef) where
   -- the first argument is read before it is stored with the others
@@ -30,7 +33,8 @@ module _ {Self Operand : Type 0} (m : Meaning Self Operand) (sound : Sound m) (t
       → StoresFrom m false (more t ts) (λ vals. ofs m (o ∷ []) (item_data m vals) ++ args m (suc first) (item_data m (drop 1 vals))) address nowhere behind b c → StoresArguments m (more t ts) first address behind a c
   argument_first t ts first behind a b c o address read later = record {
     adds = adds_both m a b c read.adds later.adds;
-    row = λ heap v vals own listed stands w f others s0 s q k blk left at places goes.
+    asks_nothing = later.asks_nothing;
+    row = λ given v vals own listed stands w f others s0 s q k blk left at places goes.
         let x = stands.0 in
         let rest = stands.1 in
         let pointer : Facts m = of address (word (core.Pointer q)) ∷ [] in
@@ -43,20 +47,10 @@ module _ {Self Operand : Type 0} (m : Meaning Self Operand) (sound : Sound m) (t
         let Ins : List m.Item → Facts m = λ vs. ofs m (o ∷ []) (item_data m vs) ++ args m (suc first) (item_data m (drop 1 vs)) in
         let there : m.denotes w b (Ins (x ∷ rest) ++ (pointer ++ others)) s1 = subst (λ fs. m.denotes w b (fs ++ (later_args ++ (pointer ++ others))) s1) one.2.1 after1.denotes in
         let at2 : At m w f b c (Ins vals ++ (pointer ++ others)) s0 s1 = record { serves = at.serves; done = one.1; holds = subst (λ vs. m.denotes w b (Ins vs ++ (pointer ++ others)) s1) (sym stands.4) there } in
-        let two = later.row heap v vals own listed stands w f others s0 s1 q k blk left at2
+        let two = later.row given v vals own listed stands w f others s0 s1 q k blk left at2
         (subst (λ (z : Account m.Item). HavePlaces m.width (more t ts) behind (reached m q nowhere) blk k z.heap) (sym after1.account) places)
         (subst (λ (z : Account m.Item). Releases (addresses own) z.taken left) (sym after1.account) goes) in
-        let end = two.4 in (
-          two.0,
-          two.1,
-          two.2,
-          two.3,
-          record {
-            account = end.account ∙ ap (λ z. (by_storing two.1 left z).account) after1.account;
-            owns = λ g. omega (arith, after1.owns g, end.owns g, total-append g (m.owns s1) [], total-append g (m.owns s) [], total-append g (m.owns two.0) (addresses own));
-            denotes = end.denotes;
-          },
-        );
+        stays_puts m false (PartsHold m.width (said false given) (more t ts) v behind) (k + behind) (end (extents_of m.width (layouts (more t ts))) behind - behind) blk k own left c w f others s0 s s1 (part_requests m.width block_for (more t ts) v) after1.account after1.owns two;
   }
 
   -- what stores the arguments from one on, stores all

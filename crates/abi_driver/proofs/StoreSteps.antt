@@ -1,5 +1,5 @@
 -- Values are stored: scalars, texts, and parts.
-use Rattle.std.proofs.Common.{◌≡◌, ℕ, ◌+◌, ◌-◌, ◌%◌, ◌^◌, ◌≤◌, Bool, List, [], ◌∷◌, ◌++◌, length, drop, take, refl, sym, ap, ap₂, ◌∙◌, subst, arith}
+use Rattle.std.proofs.Common.{◌≡◌, ℕ, ◌+◌, ◌-◌, ◌%◌, ◌^◌, ◌≤◌, Bool, List, [], ◌∷◌, ◌++◌, length, drop, take, refl, sym, ap, ap₂, ◌∙◌, subst, arith, true, Contains}
 use mathlib.Core.Logic.{inl}
 use Rattle.std.proofs.lemmas.List.{drop_all}
 use Rattle.wit_model.specs.Size.{bytes_at}
@@ -30,16 +30,24 @@ use Rattle.abi_bindgen.specs.Laws.{Adds, At, Facts, Sound, item_data, ofs}
 use Rattle.abi_bindgen.specs.Leaves.{way}
 use Rattle.abi_bindgen.specs.Meaning.{Meaning, item, of, word}
 use Rattle.abi_bindgen.specs.Parts.{LowersParts, count}
-use Rattle.abi_bindgen.specs.Places.{HasRoom, HavePlaces, IsWritten, replaced}
-use Rattle.abi_driver.specs.Stores.{LowersToMemory, Puts, Releases, StoresFrom, StoresParts}
+use Rattle.abi_bindgen.specs.Places.{HasRoom, HavePlaces, IsWritten}
+use Rattle.abi_driver.specs.Stores.{LowersToMemory, Put, Puts, StoresFrom, StoresParts}
 use Rattle.abi_bindgen.specs.Touches.{reached}
-use Rattle.abi_driver.proofs.Done.{releases_both}
+use Rattle.abi_bindgen.proofs.Done.{releases_both}
 use Rattle.abi_bindgen.proofs.Runs.{adds_both, adds_same, addresses_both}
 use Rattle.wrapper_meaning.specs.Items.{SameItems, total}
-use Rattle.abi_driver.proofs.Replaced.{block_formed, replaced_formed, replaced_same}
-use Rattle.abi_driver.proofs.Storing.{puts_again, puts_later, written_both, written_in}
+use Rattle.abi_driver.proofs.Replaced.{block_formed, replaced_same, split}
+use Rattle.abi_driver.proofs.Storing.{written_both, written_in}
 use Rattle.wrapper_meaning.proofs.PostReturn.{total-append}
 use Rattle.wit_layout.proofs.RecordSteps.{end_behind, record_behind}
+use Rattle.abi_bindgen.specs.Lowering.{Releases, said}
+use Rattle.abi_bindgen.specs.Early.{HasAsked}
+use Rattle.abi_bindgen.proofs.EarlyLemmas.{comes_more, comes_on}
+use Rattle.abi_bindgen.proofs.PassSteps.{made_both, none_behind, none_front, onward, split_both}
+use Rattle.abi_bindgen.proofs.LowerSteps.{parts_bare}
+use Rattle.abi_driver.proofs.PutSteps.{asked_by_putting, puts_as, puts_plainly, putting_both, stays_puts, there_behind}
+use Rattle.wrapper_meaning.specs.Requests.{block_for, part_requests, requests}
+use Rattle.wrapper_meaning.specs.Buffer.{Contents}
 
 -- what was written in a part and then in those behind it
 written_parts : (b mid after : Block) (k behind here size last : ℕ) → behind ≤ here → here + size ≤ last → IsWritten (k + here) size b mid → IsWritten (k + (here + size)) (last - (here + size)) mid after → IsWritten (k + behind) (last - behind) b after
@@ -47,10 +55,10 @@ written_parts b mid after k behind here size last low ends one two =
     written_both b mid after (k + behind) (last - behind) (k + here) size (k + (here + size)) (last - (here + size)) one two (omega (arith, low)) (omega (arith, low, ends)) (omega (arith, low)) (omega (arith, low, ends))
 
 -- owners are let go, and then others
-owns_parts : (s s1 u first second all : List ℕ) → all ≡ first ++ second → SameItems (s1 ++ first) (s ++ []) → SameItems (u ++ second) (s1 ++ []) → SameItems (u ++ all) (s ++ [])
+owns_parts : (s s1 u first second all : List ℕ) → all ≡ first ++ second → SameItems (s1 ++ first) s → SameItems (u ++ second) s1 → SameItems (u ++ all) s
 owns_parts s s1 u first second all same one two g =
     let sum : total g all ≡ total g first + total g second = ap (total g) same ∙ total-append g first second in
-    omega (arith, sum, one g, two g, total-append g u all, total-append g u second, total-append g s1 first, total-append g s1 [], total-append g s [])
+    omega (arith, sum, one g, two g, total-append g u all, total-append g u second, total-append g s1 first)
 
 module _ {Self Operand : Type 0} (m : Meaning Self Operand) (types : List TypeDef) where
   -- where the parts from one on begin
@@ -76,11 +84,13 @@ module _ {Self Operand : Type 0} (m : Meaning Self Operand) (sound : Sound m) (t
   pub none_stores : (realloc : Bool) (Ins : List m.Item → Facts m) (address : Operand) (offset : ArchitectureSize) (behind : ℕ) (a : Self) → Ins [] ≡ [] → StoresFrom m realloc none Ins address offset behind a a
   none_stores realloc Ins address offset behind a bare = record {
     adds = adds_same m a;
-    row = λ heap v vals own listed stands w f others s0 s q k b left at places goes.
+    asks_nothing = λ v. refl;
+    row = λ given v vals own listed stands w f others s0 s q k b left at places goes.
         let empty : own ≡ [] = stands.1 in
         let is_left : left ≡ (m.account s).taken = subst (λ bs. Releases (addresses bs) (m.account s).taken left) empty goes in
         let here : m.denotes w a (of address (word (core.Pointer q)) ∷ others) s = subst (λ fs. m.denotes w a (fs ++ of address (word (core.Pointer q)) ∷ others) s) (ap Ins stands.0 ∙ bare) at.holds in
-        let same = replaced_same (m.account s).heap.blocks b places.formed places.there in (
+        let same = replaced_same (m.account s).heap.blocks b places.formed places.there in
+        puts_plainly m realloc (PartsHold m.width (said realloc given) none v behind) (k + behind) (end [] behind - behind) b k own left a w f others s0 s places.formed places.there (
           s,
           b,
           at.done,
@@ -110,7 +120,8 @@ module _ {Self Operand : Type 0} (m : Meaning Self Operand) (sound : Sound m) (t
         → LowersToMemory m realloc t o address first_offset a b → StoresFrom m realloc ts Rest address offset next b c → StoresFrom m realloc (more t ts) Ins address offset behind a c
     more_stores a b c o Ins Rest address offset first_offset splits is first later = record {
       adds = adds_both m a b c first.adds later.adds;
-      row = λ heap v vals own listed stands w f others s0 s q k blk left at places goes.
+      asks_nothing = λ v. ap₂ (λ xs ys. xs ++ ys) (first.asks_nothing v.0) (later.asks_nothing v.1);
+      row = λ given v vals own listed stands w f others s0 s q k blk left at places goes.
           let acc = m.account s in
           let x = stands.0 in
           let rest = stands.1 in
@@ -123,7 +134,7 @@ module _ {Self Operand : Type 0} (m : Meaning Self Operand) (sound : Sound m) (t
           let ys : Facts m = Rest rest in
           let low : behind ≤ here = place_behind e behind in
           let ends : next ≤ last = end_behind es next in
-          let split = releases_both (addresses own1) (addresses own2) acc.taken left (subst (λ zs. Releases zs acc.taken left) (ap addresses stands.7 ∙ addresses_both own1 own2) goes) in
+          let owners = releases_both (addresses own1) (addresses own2) acc.taken left (subst (λ zs. Releases zs acc.taken left) (ap addresses stands.7 ∙ addresses_both own1 own2) goes) in
           let facts : m.denotes w a (((of o (item x) ∷ []) ++ ys) ++ of address (word (core.Pointer q)) ∷ others) s = subst (λ fs. m.denotes w a (fs ++ of address (word (core.Pointer q)) ∷ others) s) (ap Ins stands.4 ∙ splits x rest) at.holds in
           let doubled : m.denotes w a (pointer ++ ((of o (item x) ∷ []) ++ (ys ++ (pointer ++ others)))) s = word_again w a ((of o (item x) ∷ []) ++ ys) others address (core.Pointer q) s facts in
           let at1 : At m w f a b (of o (item x) ∷ of address (word (core.Pointer q)) ∷ (ys ++ (pointer ++ others))) s0 s =
@@ -136,53 +147,66 @@ module _ {Self Operand : Type 0} (m : Meaning Self Operand) (sound : Sound m) (t
             fits = omega (arith, places.fits, ends);
             aligned = subst (λ n. n % alignment m.width (layout t) ≡ 0) (sym reach) (aligned_part base here (greatest (e ∷ es)).grain e.grain places.aligned (grain_of_first e es) (place_aligned e behind));
           } in
-          let one = first.row heap v.0 x own1 listed.0 stands.5 w f (ys ++ (pointer ++ others)) s0 s q (k + here) blk split.0 at1 room split.1 in
-          let s1 = one.0 in
-          let mid = one.1 in
-          let put1 = one.3 in
-          let after1 = one.4 in
-          let at2 : At m w f b c (ys ++ (pointer ++ others)) s0 s1 = record { serves = at.serves; done = one.2; holds = after1.denotes } in
-          let formed = replaced_formed acc.heap.blocks blk mid (k + here) (elem_size m.width (layout t)) places.formed places.there put1.written in
-          let places1 : HavePlaces m.width ts next base mid k (record { blocks = replaced mid acc.heap.blocks }) = record {
-            formed = formed.0;
-            there = formed.1;
-            starts = places.starts ∙ ap (λ n. n + k) (sym put1.written.same_address);
-            fits = omega (arith, places.fits, put1.written.same_size);
+          let due1 = requests m.width block_for t v.0 in
+          let due2 = part_requests m.width block_for ts v.1 in
+          let size = elem_size m.width (layout t) in
+          let One : Contents = Holds m.width (said realloc given) t v.0 in
+          let Two : Contents = PartsHold m.width (said realloc given) ts v.1 next in
+          let First : m.State → Type 0 = Put m realloc One (k + here) size blk (k + here) own1 owners.0 due1 w b (ys ++ (pointer ++ others)) s in
+          let Whole : m.State → Type 0 = Put m realloc (PartsHold m.width (said realloc given) (more t ts) v behind) (k + behind) (last - behind) blk k own left (due1 ++ due2) w c others s in
+          let own_is : addresses own ≡ addresses own1 ++ addresses own2 = ap addresses stands.7 ∙ addresses_both own1 own2 in
+          comes_on true due1 due2 m.account acc (m.does w f (m.code b) s0) (m.does w f (m.code c) s0) First Whole (later.adds.grows.stops w f s0 at.serves)
+          (comes_more true due1 acc (m.does w f (m.code b) s0) First (λ s1. HasAsked due1 acc (m.account s1) × First s1) (first.row given v.0 x own1 listed.0 stands.5 w f (ys ++ (pointer ++ others)) s0 s q (k + here) blk owners.0 at1 room owners.1)
+          (λ s1 d put1. (asked_by_putting realloc put1.puts.block put1.puts.made owners.0 due1 acc (m.account s1) put1.puts.account, put1)))
+          (λ s1 done put1.
+          let mid = put1.puts.block in
+          let made1 = put1.puts.made in
+          let written1 = put1.puts.stored.written in
+          let is_behind = put1.puts.account in
+          let there = split acc.heap.blocks blk places.formed places.there in
+          let on = onward realloc own2 made1 owners.0 left (parts_bare m sound types realloc given ts v.1 rest own2 stands.6) owners.2 in
+          let at2 : At m w f b c (ys ++ (pointer ++ others)) s0 s1 = record { serves = at.serves; done = done; holds = put1.denotes } in
+          let places2 : HavePlaces m.width ts next base mid k (m.account s1).heap = record {
+            formed = put1.puts.formed;
+            there = subst (λ (z : Account m.Item). Contains z.heap.blocks mid) (sym is_behind) (there_behind acc.heap.blocks blk mid made1 there written1.same_address);
+            starts = places.starts ∙ ap (λ n. n + k) (sym written1.same_address);
+            fits = omega (arith, places.fits, written1.same_size);
             aligned = less_grain base (greatest (e ∷ es)).grain (greatest es).grain places.aligned (grain_of_rest e es);
           } in
-          let places2 = subst (λ (z : Account m.Item). HavePlaces m.width ts next base mid k z.heap) (sym after1.account) places1 in
-          let goes2 = subst (λ (z : Account m.Item). Releases (addresses own2) z.taken left) (sym after1.account) split.2 in
-          let two = later.row heap v.1 rest own2 listed.1 stands.6 w f others s0 s1 q k mid left at2 places2 goes2 in
-          let u = two.0 in
-          let all = two.1 in
-          let put2 = two.3 in
-          let after2 = two.4 in
-          let stays = holds_locally m.width (way realloc heap) t v.0 mid all (k + here) own1 listed.0 (λ i n l h. put2.written.outside i n (inl (omega (arith, h)))) put1.holds in (
-            u,
-            all,
-            two.2,
-            record {
-              written = written_parts blk mid all k behind here (elem_size m.width (layout t)) last low ends put1.written put2.written;
-              holds = (own1, own2, stays, put2.holds, stands.7);
-            },
-            record {
-              account = puts_again acc (m.account s1) (m.account u) mid all split.0 left after1.account after2.account put2.written.same_address;
-              owns = owns_parts (m.owns s) (m.owns s1) (m.owns u) (addresses own1) (addresses own2) (addresses own) (ap addresses stands.7 ∙ addresses_both own1 own2) after1.owns after2.owns;
-              denotes = after2.denotes;
-            },
-          );
+          let goes2 = subst (λ (z : Account m.Item). Releases (addresses own2) z.taken on.next) (sym is_behind) on.goes in
+          comes_more true due2 (m.account s1) (m.does w f (m.code c) s0) (Put m realloc Two (k + next) (last - next) mid k own2 on.next due2 w c others s1) Whole
+          (later.row given v.1 rest own2 listed.1 stands.6 w f others s0 s1 q k mid on.next at2 places2 goes2)
+          (λ u d put2.
+          let all = put2.puts.block in
+          let written2 = put2.puts.stored.written in
+          let stays = holds_locally m.width (said realloc given) t v.0 mid all (k + here) put1.puts.blocks listed.0 (λ i n l h. written2.outside i n (inl (omega (arith, h)))) put1.puts.stored.holds in
+          record {
+            puts = record {
+              block = all;
+              made = made1 ++ put2.puts.made;
+              blocks = put1.puts.blocks ++ put2.puts.blocks;
+              stored = record { written = written_parts blk mid all k behind here size last low ends written1 written2; holds = (put1.puts.blocks, put2.puts.blocks, stays, put2.puts.stored.holds, refl) };
+              split = subst (λ bs. SameItems (put1.puts.blocks ++ put2.puts.blocks) ((made1 ++ put2.puts.made) ++ bs)) (sym stands.7) (split_both put1.puts.blocks put2.puts.blocks made1 put2.puts.made own1 own2 put1.puts.split put2.puts.split);
+              same = λ unmade. ap₂ (λ xs ys. xs ++ ys) (put1.puts.same (none_front made1 put2.puts.made unmade)) (put2.puts.same (none_behind made1 put2.puts.made unmade)) ∙ sym stands.7;
+              each = made_both due1 due2 made1 put2.puts.made put1.puts.each put2.puts.each;
+              account = putting_both realloc blk mid all made1 put2.puts.made owners.0 on.next left due1 due2 acc (m.account s1) (m.account u) there written1.same_address written2.same_address is_behind put2.puts.account on.same;
+              formed = put2.puts.formed;
+            };
+            owns = owns_parts (m.owns s) (m.owns s1) (m.owns u) (addresses own1) (addresses own2) (addresses own) own_is put1.owns put2.owns;
+            denotes = put2.denotes;
+          }));
     }
 
   -- a value whose parts are stored
   parts_row : (realloc : Bool) (ts : Shapes) (t : Shape) (whole : Parts ts → Value t) (a b c : Self) (o address : Operand) (parts : List Operand) (offset : ArchitectureSize)
       → layout t ≡ layout (fields ts) → ((v : Parts ts) (dir : Direction) (blk : Block) (k : ℕ) (own : List Block) → PartsHold m.width dir ts v 0 blk k own → Holds m.width dir t (whole v) blk k own)
       → Adds m a b → LowersParts m ts t whole (o ∷ []) parts a b → StoresParts m realloc ts parts address offset 0 b c
-      → (heap : List Block) (v : Parts ts) (x : m.Item) (own : List Block) → AreListed ts v → m.stands (way realloc heap) t (whole v) x own
+      → (given : List Block) (v : Parts ts) (x : m.Item) (own : List Block) → AreListed ts v → m.stands (way realloc given) t (whole v) x own
       → (w : m.World) (f : Peer m.Item) (others : Facts m) (s0 s : m.State) (q k : ℕ) (blk : Block) (left : List ℕ)
       → At m w f a c (of o (item x) ∷ of address (word (core.Pointer q)) ∷ others) s0 s → HasRoom m.width t (reached m q offset) blk k (m.account s).heap → Releases (addresses own) (m.account s).taken left
-      → Puts m (Holds m.width (way realloc heap) t (whole v)) k (elem_size m.width (layout t)) blk k own left c w f others s0 s
-  parts_row realloc ts t whole a b c o address parts offset same holds adds lowers stores heap v x own listed stands w f others s0 s q k blk left at room goes =
-      let row = lowers (way realloc heap) v x own stands in
+      → Puts m realloc (Holds m.width (said realloc given) t (whole v)) k (elem_size m.width (layout t)) blk k own left (part_requests m.width block_for ts v) c w f others s0 s
+  parts_row realloc ts t whole a b c o address parts offset same holds adds lowers stores given v x own listed stands w f others s0 s q k blk left at room goes =
+      let row = lowers (way realloc given) v x own stands in
       let vals = row.0 in
       let pointer : Facts m = of address (word (core.Pointer q)) ∷ [] in
       let at1 : At m w f a b ((of o (item x) ∷ []) ++ (pointer ++ others)) s0 s = record { serves = stores.adds.grows.serves w at.serves; done = at.done; holds = at.holds } in
@@ -201,38 +225,30 @@ module _ {Self Operand : Type 0} (m : Meaning Self Operand) (sound : Sound m) (t
       } in
       let places1 = subst (λ (z : Account m.Item). HavePlaces m.width ts 0 (reached m q offset) blk k z.heap) (sym after1.account) places in
       let goes1 = subst (λ (z : Account m.Item). Releases (addresses own) z.taken left) (sym after1.account) goes in
-      let two = stores.row heap v vals own listed row.1 w f others s0 s1 q k blk left at2 places1 goes1 in
-      let u = two.0 in
-      let all = two.1 in
-      let put = two.3 in
-      let after2 = two.4 in (
-        u,
-        all,
-        two.2,
-        record {
-          written = written_in blk all (k + 0) (end es 0 - 0) k (elem_size m.width (layout t)) put.written (omega arith) (omega (arith, size, record_behind es));
-          holds = holds v (way realloc heap) all k own put.holds;
-        },
-        record {
-          account = puts_later (m.account s) (m.account s1) (m.account u) all left after1.account after2.account;
-          owns = λ g. after2.owns g ∙ after1.owns g;
-          denotes = after2.denotes;
-        },
-      )
+      let due = part_requests m.width block_for ts v in
+      let Parted : Contents = PartsHold m.width (said realloc given) ts v 0 in
+      let Whole : Contents = Holds m.width (said realloc given) t (whole v) in
+      let two = stores.row given v vals own listed row.1 w f others s0 s1 q k blk left at2 places1 goes1 in
+      let from_start = stays_puts m realloc Parted (k + 0) (end es 0 - 0) blk k own left c w f others s0 s s1 due after1.account after1.owns two in
+      puts_as m realloc Parted (k + 0) (end es 0 - 0) blk k own left c w f others s0 Whole k (elem_size m.width (layout t)) k s due
+      (λ all written. written_in blk all (k + 0) (end es 0 - 0) k (elem_size m.width (layout t)) written (omega arith) (omega (arith, size, record_behind es)))
+      (λ all blocks written there. holds v (said realloc given) all k blocks there) from_start
 
   pub record_stores : (realloc : Bool) (id : TypeId) (members : List Field) (a b c : Self) (o address : Operand) (parts : List Operand) (offset : ArchitectureSize) → IsRecord types id.0 members → Emits m types (RecordLower id) (o ∷ []) parts a b
       → StoresParts m realloc (field_shapes types members) parts address offset 0 b c → LowersToMemory m realloc (fields (field_shapes types members)) o address offset a c
   record_stores realloc id members a b c o address parts offset is e stores = record {
     adds = adds_both m a b c e.adds stores.adds;
-    row = λ heap v x own listed stands.
-        parts_row realloc (field_shapes types members) (fields (field_shapes types members)) (λ v. v) a b c o address parts offset refl (λ v dir blk k own h. h) e.adds (e.row members is) stores heap v x own listed stands;
+    asks_nothing = stores.asks_nothing;
+    row = λ given v x own listed stands.
+        parts_row realloc (field_shapes types members) (fields (field_shapes types members)) (λ v. v) a b c o address parts offset refl (λ v dir blk k own h. h) e.adds (e.row members is) stores given v x own listed stands;
   }
 
   pub tuple_stores : (realloc : Bool) (n : ℕ) (ts : Shapes) (a b c : Self) (o address : Operand) (parts : List Operand) (offset : ArchitectureSize) → count ts ≡ n → Emits m types (TupleLower n) (o ∷ []) parts a b
       → StoresParts m realloc ts parts address offset 0 b c → LowersToMemory m realloc (tuple ts) o address offset a c
   tuple_stores realloc n ts a b c o address parts offset is e stores = record {
     adds = adds_both m a b c e.adds stores.adds;
-    row = λ heap v x own listed stands. parts_row realloc ts (tuple ts) (λ v. v) a b c o address parts offset refl (λ v dir blk k own h. h) e.adds (e.row ts is) stores heap v x own listed stands;
+    asks_nothing = stores.asks_nothing;
+    row = λ given v x own listed stands. parts_row realloc ts (tuple ts) (λ v. v) a b c o address parts offset refl (λ v dir blk k own h. h) e.adds (e.row ts is) stores given v x own listed stands;
   }
 
   pub stores_as : (realloc : Bool) (s t : Shape) (a b : Self) (o address : Operand) (offset : ArchitectureSize) → s ≡ t → LowersToMemory m realloc t o address offset a b → LowersToMemory m realloc s o address offset a b

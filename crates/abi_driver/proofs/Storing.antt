@@ -14,7 +14,6 @@ use Rattle.wrapper_meaning.specs.Words.{bits_of}
 use Rattle.abi_bindgen.specs.Account.{Account, Done, Got, Outcome, has_type, is_at}
 use Rattle.abi_bindgen.specs.Memory.{Access, bytes_at, bytes_on, is_aligned, is_inside, is_ranged, is_reached, little_bytes, loaded, loading, storing, word_read}
 use Rattle.abi_bindgen.specs.Places.{IsWritten, SameOutside, replaced}
-use Rattle.abi_driver.specs.Stores.{by_storing}
 use Rattle.abi_driver.proofs.Bytes.{length-little_bytes, little-little_bytes, some_numbers}
 use Rattle.abi_driver.proofs.CellWrites.{none_read, put, put_before, put_behind, put_here, put_in_order, read_both, with_cell_is_put}
 use Rattle.abi_driver.proofs.Replaced.{Tells, block_formed, block_from, byte_there, find_there, is_sized, meet, replaced_formed, replaced_same, replaced_twice}
@@ -149,15 +148,6 @@ stored_later acc one two after same is = is ∙ ap (stored_in after) same
 pub stored_again : {V : Type 0} (acc one two : Account V) (mid after : Block) → one ≡ stored_in mid acc → two ≡ stored_in after one → after.address ≡ mid.address → two ≡ stored_in after acc
 stored_again {V} acc one two mid after first later same =
     later ∙ ap (stored_in after) first ∙ ap (λ (bs : List Block). record acc { heap = record { blocks = bs } }) (replaced_twice mid after acc.heap.blocks (sym same))
-
--- the same where owners are let go too
-pub puts_later : {V : Type 0} (acc one two : Account V) (after : Block) (left : List ℕ) → one ≡ acc → two ≡ (by_storing after left one).account → two ≡ (by_storing after left acc).account
-puts_later {V} acc one two after left same is = is ∙ ap (λ (z : Account V). (by_storing after left z).account) same
-
-pub puts_again : {V : Type 0} (acc one two : Account V) (mid after : Block) (first left : List ℕ) → one ≡ (by_storing mid first acc).account → two ≡ (by_storing after left one).account → after.address ≡ mid.address
-    → two ≡ (by_storing after left acc).account
-puts_again {V} acc one two mid after first left before later same =
-    later ∙ ap (λ (z : Account V). (by_storing after left z).account) before ∙ ap (λ (bs : List Block). record acc { heap = record { blocks = bs }; taken = left }) (replaced_twice mid after acc.heap.blocks (sym same))
 
 abbrev pub StoresIn : {V : Type 0} (w : ℕ) (a : Access) (address : ℕ) (x : Word) (b : Block) (k : ℕ) → Account V → Type 0
 StoresIn w a address x b k acc =

@@ -22,8 +22,8 @@ use Rattle.wrapper_meaning.specs.Shape.Shape.{cases}
 use Rattle.wrapper_meaning.specs.Value.{case_number}
 use Rattle.wrapper_meaning.proofs.HoldsLocally.{payload_within}
 use Rattle.wrapper_meaning.proofs.PostReturn.{total-append}
-use Rattle.abi_bindgen.specs.Account.{Account, Done, Outcome, Stuck, addresses, then_do}
-use Rattle.abi_bindgen.specs.Arms.{Armed, arm, arms, gives_words}
+use Rattle.abi_bindgen.specs.Account.{Account, Done, Outcome, Stuck, addresses, then_do, Follows, Stopped}
+use Rattle.abi_bindgen.specs.Arms.{Armed, arms, gives_words}
 use Rattle.abi_bindgen.specs.Blocks.{owned_datum}
 use Rattle.abi_driver.specs.FinishedBlocks.{HasCaseRoom}
 use Rattle.abi_bindgen.specs.Cases.{payloads_of, with_case}
@@ -33,8 +33,8 @@ use Rattle.abi_bindgen.specs.Laws.{At, Facts, Sound, ofs}
 use Rattle.abi_bindgen.specs.Leaves.{way}
 use Rattle.abi_bindgen.specs.Meaning.{Ended, Meaning, item, of, word}
 use Rattle.abi_bindgen.specs.Parts.{count}
-use Rattle.abi_driver.specs.StoredCases.{StoresCases}
-use Rattle.abi_driver.specs.Stores.{LowersToMemory, Releases, by_storing}
+use Rattle.abi_driver.specs.StoredCases.{StoresCases, BlockPut, Tagged}
+use Rattle.abi_driver.specs.Stores.{LowersToMemory, Put, PutBy}
 use Rattle.abi_bindgen.specs.Touches.{reached}
 use Rattle.abi_bindgen.specs.Turns.{Arrives, Went}
 use Rattle.abi_bindgen.specs.Flow.{Flow, emit, behind, both, ◌>>>◌}
@@ -50,10 +50,28 @@ use Rattle.abi_driver.proofs.RecordPlaces.{place_told}
 use Rattle.abi_bindgen.proofs.Payloads.{count_payloads, variant_shape}
 use Rattle.abi_bindgen.proofs.FlowSteps.{flows_as, flows_then, flows_both}
 use Rattle.abi_driver.proofs.Storing.{written_in}
+use Rattle.abi_bindgen.specs.Lowering.{Releases, said}
+use Rattle.abi_bindgen.specs.Early.{Comes}
+use Rattle.abi_driver.proofs.PutSteps.{put_as}
+use Rattle.wrapper_meaning.specs.Requests.{block_for, case_requests}
+use Rattle.wrapper_data.specs.declared.choice.Request.{Request}
+use Rattle.wrapper_meaning.specs.Buffer.{Contents}
+use Rattle.wrapper_meaning.specs.InMemory.{CaseHolds, Holds}
+use Rattle.wrapper_meaning.specs.Items.{total}
 
 no_items : {A : Type 0} (xs : List A) → length xs ≡ 0 → xs ≡ []
 no_items [] e = refl
 no_items (x ∷ xs) e = absurd (omega (arith, e))
+
+-- the block of a case was run, and the code follows it
+arm_done : {Self Operand : Type 0} (m : Meaning Self Operand) {A : Type 0} (due : List Request) (acc : Account m.Item) (q : Outcome m.Item (Ended m.Item m.State)) (o : Outcome m.Item m.State) (go : Ended m.Item m.State → Outcome m.Item A) (First : Ended m.Item m.State → Type 0)
+    (Behind : A → m.State → Type 0) (Whole : m.State → Type 0) → Comes true due acc q First → Follows m.account (then_do q go) o Behind → (result : Ended m.Item m.State → A) → ((e : Ended m.Item m.State) → First e → go e ≡ Done (result e))
+    → ((e : Ended m.Item m.State) (t : m.State) → First e → Behind (result e) t → Whole t) → Comes true due acc o Whole
+arm_done m due acc (Done e) o go First Behind Whole h follows result is last =
+    let r = follows_done m.account (go e) o Behind (result e) (is e h) follows in
+    subst (λ z. Comes true due acc z Whole) (sym r.1) (last e r.0 h r.2)
+arm_done m due acc (Stopped e end) o go First Behind Whole h follows result is last = subst (λ z. Comes true due acc z Whole) (sym follows) h
+arm_done m due acc (Stuck end) o go First Behind Whole h follows result is last = elim h [ ]
 
 module _ {Self Operand : Type 0} (m : Meaning Self Operand) (sound : Sound m) where
   -- the blocks of all cases, and then the instruction that runs the one of the value's case
@@ -61,8 +79,9 @@ module _ {Self Operand : Type 0} (m : Meaning Self Operand) (sound : Sound m) wh
       → StoresCases m realloc (discriminant_grain (tree_count (layouts ts))) 0 ts address offset place a b → LowersBy m ts value [] b c → LowersToMemory m realloc (cases ts) value address offset a c
   variant_stores realloc ts a b c value address offset place placed stores lowers = record {
     adds = resumes_then m a b c stores.adds.resumes lowers.grows lowers.quiet lowers.uncalled lowers.asked (lowers.blocks ∙ arms_gone m (replicate (count ts) 0) stores.bodies a b (count ts) stores.adds (length-replicate (count ts) 0));
-    row = λ heap v x own listed stands w f others s0 s q k blk left at room goes.
-        let dir = way realloc heap in
+    asks_nothing = stores.asks_nothing;
+    row = λ given v x own listed stands w f others s0 s q k blk left at room goes.
+        let dir = way realloc given in
         let n = case_number ts v in
         let d = payload_offset m.width (layout (cases ts)) in
         let e = greatest (extents_of m.width (layouts ts)) in
@@ -84,33 +103,31 @@ module _ {Self Operand : Type 0} (m : Meaning Self Operand) (sound : Sound m) wh
         let room1 = case_room m.width ts (reached m q offset) (reached m q place) blk k (m.account s).heap room reach in
         let room2 = subst (λ (z : Account m.Item). HasCaseRoom (discriminant_grain (tree_count (layouts ts))) e (reached m q offset) (reached m q place) blk k d z.heap) (sym moved.account) room1 in
         let goes2 = subst (λ (z : Account m.Item). Releases (addresses own) z.taken left) (sym moved.account) goes in
-        let put = found.2 heap payload own listed lowered.1 w f b s begin q k d blk left serves_b known (front_only m sound w b pointer others begin held_all) room2 goes2 in
-        let after = put.1 in
-        let gives = put.2 in
-        let ended = gives.state in
+        let due = case_requests m.width block_for ts v in
+        let inner = d + e.bytes in
+        let size : inner ≤ elem_size m.width (layout (cases ts)) = payload_within (tree_count (layouts ts)) e in
+        let Tag : Contents = Tagged m (discriminant_grain (tree_count (layouts ts))) (0 + n) d (CaseHolds m.width (said realloc given) ts v) in
+        let Held : Contents = Holds m.width (said realloc given) (cases ts) v in
+        let run = found.2 given payload own listed lowered.1 w f b s begin q k d blk left serves_b known (front_only m sound w b pointer others begin held_all) room2 goes2 in
+        let First : Ended m.Item m.State → Type 0 = BlockPut m realloc Tag inner blk k own left due w begin in
+        let Whole : m.State → Type 0 = Put m realloc Held k (elem_size m.width (layout (cases ts))) blk k own left due w c others s in
         let Result : Type 0 = Went m (Armed m) in
-        let went : Result = record { result = record { number = n; results = [] }; state = ended; account = m.account ended } in
-        let run = arm m (gives_words m) (λ z. m.runs w f z (with_case m payload)) n begin (Some body) in
+        let Behind : Result → m.State → Type 0 = Arrives m w b c (pointer ++ others) (λ l fs. fs ≡ ofs m [] l.results) (λ l. flat_map (owned_datum m) l.results) in
         let go : Ended m.Item m.State → Outcome m.Item Result = λ z. if gives_words m z.results then Done (record { result = record { number = n; results = z.results }; state = z.state; account = m.account z.state }) else Stuck (m.account z.state) in
-        let armed : run ≡ Done went = ap (λ o. then_do o go) gives.runs in
-        let last = follows_done m.account run (m.does w f (m.code c) s0) (Arrives m w b c (pointer ++ others) (λ l fs. fs ≡ ofs m [] l.results) (λ l. flat_map (owned_datum m) l.results)) went armed ran.2 in
-        let t = last.0 in
-        let arrives = last.2 in
-        let outs = arrives.denotes (gives.denotes b (pointer ++ others) held_all) in
-        let size : d + e.bytes ≤ elem_size m.width (layout (cases ts)) = payload_within (tree_count (layouts ts)) e in (
-          t,
-          after,
-          last.1,
-          record {
-            written = written_in blk after k (d + e.bytes) k (elem_size m.width (layout (cases ts))) put.3.written (omega arith) (omega (arith, size));
-            holds = (subst (λ j. HasNumber after k (2 ^ discriminant_grain (tree_count (layouts ts))) j) (omega arith) put.3.holds.0, put.3.holds.1);
-          },
-          record {
-            account = arrives.account ∙ gives.account ∙ put.4 ∙ ap (λ (z : Account m.Item). (by_storing after left z).account) moved.account;
-            owns = λ g. omega (arith, arrives.owns g, gives.owns g, moved.owns g, owns_blocks m sound realloc heap (cases ts) v x own stands g, total-append g (m.owns t) (addresses own), total-append g (m.owns ended) [], total-append g (m.owns begin) (m.owned x), total-append g (m.owns s) []);
-            denotes = sound.fewer w c pointer others t (subst (λ fs. m.denotes w c (fs ++ (pointer ++ others)) t) outs.1 outs.2);
-          },
-        );
+        arm_done m due (m.account s) (m.runs w f body (with_case m payload) begin) (m.does w f (m.code c) s0) go First Behind Whole
+        (subst (λ z. Comes true due z (m.runs w f body (with_case m payload) begin) First) moved.account run) ran.2
+        (λ z. record { result = record { number = n; results = z.results }; state = z.state; account = m.account z.state })
+        (λ z put. ap (λ rs. if gives_words m rs then Done (record { result = record { number = n; results = z.results }; state = z.state; account = m.account z.state }) else Stuck (m.account z.state)) put.results)
+        (λ z t put arrives.
+        let outs = arrives.denotes (put.keeps b (pointer ++ others) held_all) in
+        let nothing_left : outs.0 ≡ [] = outs.1 in
+        let tagged = put_as realloc Tag Held k inner k (elem_size m.width (layout (cases ts))) blk k k own left due (m.account begin) (m.account z.state) (λ after written. written_in blk after k inner k (elem_size m.width (layout (cases ts))) written (omega arith) (omega (arith, size)))
+        (λ after blocks written there. (subst (λ j. HasNumber after k (2 ^ discriminant_grain (tree_count (layouts ts))) j) (omega arith) there.0, there.1)) put.puts in
+        record {
+          puts = subst (PutBy realloc Held k (elem_size m.width (layout (cases ts))) blk k own left due (m.account s)) (sym arrives.account) (subst (λ y. PutBy realloc Held k (elem_size m.width (layout (cases ts))) blk k own left due y (m.account z.state)) moved.account tagged);
+          owns = λ g. omega (arith, arrives.owns g, put.owns g, moved.owns g, owns_blocks m sound realloc given (cases ts) v x own stands g, total-append g (m.owns t) (addresses own), total-append g (m.owns z.state) (flat_map (owned_datum m) z.results), ap (λ ds. total g (flat_map (owned_datum m) ds)) put.results, total-append g (m.owns begin) (m.owned x));
+          denotes = sound.fewer w c pointer others t (subst (λ fs. m.denotes w c (fs ++ (pointer ++ others)) t) nothing_left outs.2);
+        });
   }
 
 module _ {Self Operand : Type 0} (m : Meaning Self Operand) (sound : Sound m) (types : List TypeDef) (down : GoesDown types) (id : TypeId) (entry : TypeDef) (at : slice_get types id.0 ≡ Some entry) (k : TypeDefKind) (has : has_cases k ≡ true) (kind_is : entry.kind ≡ k) where

@@ -7,7 +7,7 @@ use Rattle.wrapper_meaning.specs.Items.{SameItems, total}
 use Rattle.abi_bindgen.specs.Account.{Account, Act, Done, Follows, Got, Outcome, Peer, Stuck, is_taken, releasing, without}
 use Rattle.abi_bindgen.specs.Laws.{After, At, Does, Facts}
 use Rattle.abi_bindgen.specs.Meaning.{Meaning}
-use Rattle.abi_driver.specs.Stores.{Releases}
+use Rattle.abi_bindgen.specs.Lowering.{Releases}
 
 if_done : {V A : Type 0} (b : Bool) (o q : Outcome V A) → b ≡ true → (if b then o else q) ≡ o
 if_done b o q e = ap (λ c. if c then o else q) e
