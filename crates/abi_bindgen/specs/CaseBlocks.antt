@@ -1,5 +1,5 @@
 -- What the blocks do by which the cases of a type become core words, and core words become cases.
-use Rattle.std.specs.Prelude.{◌≡◌, ℕ, suc, ◌+◌, pos, Bool, true, List, [], ◌∷◌, ◌++◌, length, replicate, reverse, Option, Some, slice_get}
+use Rattle.std.specs.Prelude.{false, ◌≡◌, ℕ, suc, ◌+◌, pos, Bool, true, List, [], ◌∷◌, ◌++◌, length, replicate, reverse, Option, Some, slice_get}
 use Rattle.wit_model.specs.declared.wasm_type.WasmType.{WasmType}
 use Rattle.wrapper_data.specs.Heap.{is_heap}
 use Rattle.wrapper_data.specs.declared.block.Block.{Block}
@@ -10,18 +10,19 @@ use Rattle.wrapper_meaning.specs.AsWords.{CaseSays, Saying}
 use Rattle.wrapper_meaning.specs.Direction.{take}
 use Rattle.wrapper_meaning.specs.InRange.{IsListedCase}
 use Rattle.wrapper_meaning.specs.Items.{SameItems}
-use Rattle.wrapper_meaning.specs.Requests.{block_for, case_requests}
+use Rattle.wrapper_meaning.specs.Requests.{block_for, case_requests, room_for}
 use Rattle.wrapper_meaning.specs.Settled.{settled_case}
 use Rattle.wrapper_meaning.specs.Shape.{Shapes}
 use Rattle.wrapper_meaning.specs.Value.{Case, case_number}
 use Rattle.wrapper_meaning.specs.Words.{AreWords}
 use Rattle.abi_bindgen.specs.Account.{Peer, addresses}
-use Rattle.abi_bindgen.specs.Blocks.{AreFinished, Gives}
+use Rattle.abi_bindgen.specs.Blocks.{AreFinished}
 use Rattle.abi_bindgen.specs.Cases.{IsPayload, PayloadStands, with_case}
 use Rattle.abi_bindgen.specs.Early.{Comes}
-use Rattle.abi_bindgen.specs.Laws.{Data, Facts, Grows, StaysUncalled, core_data, ofs}
+use Rattle.abi_bindgen.specs.Laws.{Facts, Grows, StaysUncalled, core_data, ofs}
 use Rattle.abi_bindgen.specs.Leaves.{way}
-use Rattle.abi_bindgen.specs.Lifts.{MayTake, took}
+use Rattle.abi_bindgen.specs.Lifting.{LiftedBy}
+use Rattle.abi_bindgen.specs.Lifts.{MayTake}
 use Rattle.abi_bindgen.specs.Lowering.{LoweredBy, Releases, said}
 use Rattle.abi_bindgen.specs.Meaning.{Bound, Ended, Meaning, with_nothing}
 use Rattle.abi_bindgen.specs.Parts.{count}
@@ -72,21 +73,26 @@ module _ {Self Operand : Type 0} (m : Meaning Self Operand) where
 
   -- 2. Words become values
 
-  -- a block gives a payload, and takes over its blocks
-  pub record TakesPayload (w : m.World) (p : Peer m.Item) (block : m.Block) (Stands : Option m.Item → Type 0) (own : List Block) (s : m.State) : Type 0 where
-    pub given : Data m
+  -- a block gave a payload, which owns blocks of the slots. Outside of it nothing is changed but the account
+  pub record GavePayload (Stands : Option m.Item → List Block → Type 0) (blocks : List Block) (due : List Request) (w : m.World) (s : m.State) (e : Ended m.Item m.State) : Type 0 where
     pub payload : Option m.Item
-    pub is : IsPayload m given payload
-    pub stands : Stands payload
-    pub after : m.State
-    pub account : m.account after ≡ took own (m.account s)
-    pub gives : Gives m w p block with_nothing s after given
+    pub is : IsPayload m e.results payload
+    pub own : List Block
+    pub stands : Stands payload own
+    pub lifted : LiftedBy blocks own due (m.account s) (m.account e.state)
+    pub owns : SameItems (m.owns e.state) (m.owns s)
+    pub keeps : (b : Self) (facts : Facts m) → m.denotes w b facts s → m.denotes w b facts e.state
+
+  abbrev pub TakesPayload : m.World → Peer m.Item → m.Block → (Stands : Option m.Item → List Block → Type 0) → (blocks : List Block) → (due : List Request) → m.State → Type 0
+  TakesPayload w p block Stands blocks due s = Comes false due (m.account s) (m.runs w p block with_nothing s) (GavePayload Stands blocks due w s)
 
   -- there is a block for each case, which reads the slots outside and gives the payload
   pub record LiftsCases (ts : Shapes) (ks : List ℕ) (slots : List WasmType) (os : List Operand) (old new : Self) : Type 0 where
     pub bodies : List m.Block
     pub adds : AddsBlocks bodies ks old new
-    pub row : (c : Case ts) (shared : List Word) (own : List Block) → IsListedCase ts c → AreWords m.width slots shared → CaseSays m.width take ts c shared own →
+    -- so far no code is made for what asks for room
+    pub asks_nothing : (c : Case ts) → case_requests m.width room_for ts c ≡ []
+    pub row : (c : Case ts) (shared : List Word) (blocks : List Block) → IsListedCase ts c → AreWords m.width slots shared → CaseSays m.width take ts c shared blocks →
         (body : m.Block) × (slice_get bodies (case_number ts c) ≡ Some body)
-        × ((w : m.World) (p : Peer m.Item) (later : Self) (before s : m.State) → m.serves w new → m.denotes w old (ofs m os (core_data m shared)) before → m.denotes w later (ofs m os (core_data m shared)) s → MayTake own (m.account s)
-        → TakesPayload w p body (λ payload. PayloadStands m take ts (settled_case ts c) payload own) own s)
+        × ((w : m.World) (p : Peer m.Item) (later : Self) (before s : m.State) → m.serves w new → m.denotes w old (ofs m os (core_data m shared)) before → m.denotes w later (ofs m os (core_data m shared)) s → MayTake blocks (m.account s)
+        → TakesPayload w p body (PayloadStands m take ts (settled_case ts c)) blocks (case_requests m.width room_for ts c) s)

@@ -19,6 +19,7 @@ pub mod HasList
 pub mod Instructions
 pub mod Laws
 pub mod Leaves
+pub mod Lifting
 pub mod Lifts
 pub mod Lists
 pub mod Lowering

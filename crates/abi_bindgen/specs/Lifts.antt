@@ -12,10 +12,13 @@ use Rattle.wrapper_meaning.specs.Layout.{layout, layouts}
 use Rattle.wrapper_meaning.specs.Settled.{all_settled, settled}
 use Rattle.wrapper_meaning.specs.Shape.{Shape, Shapes}
 use Rattle.wrapper_meaning.specs.Value.{Parts, Value}
-use Rattle.abi_bindgen.specs.Account.{Account, Done, Got, Peer, addresses, is_taken}
-use Rattle.abi_bindgen.specs.Laws.{Adds, After, At, Facts, args, core_data, item_data, ofs}
+use Rattle.abi_bindgen.specs.Account.{Account, Got, Peer, addresses, is_taken}
+use Rattle.abi_bindgen.specs.Laws.{Adds, At, Facts, args, core_data, ofs}
 use Rattle.abi_bindgen.specs.Meaning.{Meaning}
 use Rattle.abi_bindgen.specs.Parts.{PartsStand, count}
+use Rattle.abi_bindgen.specs.Lifting.{Gets}
+use Rattle.wrapper_meaning.specs.Requests.{part_requests, requests, room_for}
+use Rattle.wrapper_data.specs.declared.choice.Request.{Request}
 
 -- nobody owns these blocks, and none stands twice among them
 abbrev pub AreFree : List Block → List ℕ → Type 0
@@ -36,34 +39,36 @@ abbrev pub by_taking : {V : Type 0} → List Block → Account V → Got V (Unit
 by_taking blocks acc = record { result = tt; account = took blocks acc }
 
 module _ {Self Operand : Type 0} (m : Meaning Self Operand) where
-  -- words of which there are such facts become operands of items that stand for something, and own the blocks of the words
-  abbrev pub TakesOver : (Stand : List m.Item → Type 0) → (ins : Facts m) → List Block → (rs : List Operand) → (old new : Self) → Type 0
-  TakesOver Stand ins own rs old new =
-      (w : m.World) (f : Peer m.Item) (others : Facts m) (s0 s : m.State) → At m w f old new (ins ++ others) s0 s → MayTake own (m.account s) →
-      (t : m.State) × (m.does w f (m.code new) s0 ≡ Done t)
-      × (vals : List m.Item) × Stand vals × After m w new (ofs m rs (item_data m vals) ++ others) (addresses own) [] s (by_taking own (m.account s)) t
+  -- words of which there are such facts become operands of items that stand for something, and own blocks of the words
+  abbrev pub TakesOver : (Stands : List m.Item → List Block → Type 0) → (ins : Facts m) → (blocks : List Block) → (due : List Request) → (rs : List Operand) → (old new : Self) → Type 0
+  TakesOver Stands ins blocks due rs old new =
+      (w : m.World) (f : Peer m.Item) (others : Facts m) (s0 s : m.State) → At m w f old new (ins ++ others) s0 s → MayTake blocks (m.account s) → Gets m Stands blocks due rs new w f others s0 s
 
   -- one item stands for the value that is handed on
-  abbrev pub OneStands : (t : Shape) → Value t → List Block → List m.Item → Type 0
-  OneStands t v own vals = (a : m.Item) × (vals ≡ a ∷ []) × m.stands take t (settled t v) a own
+  abbrev pub OneStands : (t : Shape) → Value t → List m.Item → List Block → Type 0
+  OneStands t v vals own = (a : m.Item) × (vals ≡ a ∷ []) × m.stands take t (settled t v) a own
 
   -- operands that denote words which represent a value that is taken become an operand of it
   pub record LiftsFlat (t : Shape) (os : List Operand) (r : Operand) (old new : Self) : Type 0 where
     pub adds : Adds m old new
     pub fits : length os ≡ length (flatten_type (layout t))
-    pub row : (v : Value t) (ws : List Word) (own : List Block) → IsListed t v → Says m.width take t v ws own → TakesOver (OneStands t v own) (ofs m os (core_data m ws)) own (r ∷ []) old new
+    -- so far no code is made for what asks for room
+    pub asks_nothing : (v : Value t) → requests m.width room_for t v ≡ []
+    pub row : (v : Value t) (ws : List Word) (blocks : List Block) → IsListed t v → Says m.width take t v ws blocks → TakesOver (OneStands t v) (ofs m os (core_data m ws)) blocks (requests m.width room_for t v) (r ∷ []) old new
 
   -- the same of parts, one after another
   pub record LiftsAll (ts : Shapes) (os rs : List Operand) (old new : Self) : Type 0 where
     pub adds : Adds m old new
     pub fits : length os ≡ length (flatten_record (layouts ts))
-    pub row : (v : Parts ts) (ws : List Word) (own : List Block) → AreListed ts v → PartsSay m.width take ts v ws own → TakesOver (λ vals. PartsStand m take ts (all_settled ts v) vals own) (ofs m os (core_data m ws)) own rs old new
+    pub asks_nothing : (v : Parts ts) → part_requests m.width room_for ts v ≡ []
+    pub row : (v : Parts ts) (ws : List Word) (blocks : List Block) → AreListed ts v → PartsSay m.width take ts v ws blocks → TakesOver (PartsStand m take ts (all_settled ts v)) (ofs m os (core_data m ws)) blocks (part_requests m.width room_for ts v) rs old new
 
   -- the same of arguments, of which the first words are from one on
   pub record LiftsArguments (ts : Shapes) (first : ℕ) (rs : List Operand) (old new : Self) : Type 0 where
     pub adds : Adds m old new
     pub many : length rs ≡ count ts
-    pub row : (v : Parts ts) (ws : List Word) (own : List Block) → AreListed ts v → PartsSay m.width take ts v ws own → TakesOver (λ vals. PartsStand m take ts (all_settled ts v) vals own) (args m first (core_data m ws)) own rs old new
+    pub asks_nothing : (v : Parts ts) → part_requests m.width room_for ts v ≡ []
+    pub row : (v : Parts ts) (ws : List Word) (blocks : List Block) → AreListed ts v → PartsSay m.width take ts v ws blocks → TakesOver (PartsStand m take ts (all_settled ts v)) (args m first (core_data m ws)) blocks (part_requests m.width room_for ts v) rs old new
 
   -- the words of an answer become an operand of it, where there is one
   abbrev pub LiftsAnswer : (r : Option Shape) → (os rs : List Operand) → (old new : Self) → Type 0

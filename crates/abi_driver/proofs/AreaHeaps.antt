@@ -126,6 +126,12 @@ none_at_address a (c ∷ own) h = (λ e. let one = weighs_itself a c own e in om
 has_one : (b : Block) (before behind : List Block) → 1 ≤ total (at_address b.address) (before ++ b ∷ behind)
 has_one b before behind = let itself = weighs_itself b.address b behind refl in let sum = total-append (at_address b.address) before (b ∷ behind) in omega (arith, itself, sum)
 
+-- none of them stands at the address of a block of the heap
+pub none_new_at : (heap : Heap) (new own : List Block) (b : Block) → is_heap heap ≡ true → are_new new heap ≡ true → SameItems new own → Contains heap.blocks b → total (at_address b.address) own ≡ 0
+none_new_at heap new own b good fresh brings there =
+    let s = split heap.blocks b good there in
+    omega (arith, once (heap.blocks ++ new) b.address (with_new heap new good fresh), total-append (at_address b.address) heap.blocks new, brings (at_address b.address), subst (λ bs. 1 ≤ total (at_address b.address) bs) (sym s.all) (has_one b s.before s.behind))
+
 -- where bytes are written in one block of the heap, they are as they were
 pub written_there : (heap : Heap) (new own : List Block) (writes : List (ℕ × ℕ)) (b : Block) → is_heap heap ≡ true → are_new new heap ≡ true → SameItems new own → Contains heap.blocks b → AllByRecursion (IsInside b) writes
     → AllIn (answered new writes heap).blocks own
@@ -137,7 +143,6 @@ written_there heap new own writes b good fresh brings there inside =
     let whole : all ≡ s.before ++ b ∷ (s.behind ++ new) = ap (λ bs. bs ++ new) s.all ∙ append_assoc s.before (b ∷ s.behind) new in
     let there1 : Contains all b = subst (λ bs. Contains bs b) (sym whole) (there_again s.before (s.behind ++ new) b) in
     let w = writes_inside writes all b good1 there1 inside in
-    let none : total (at_address b.address) own ≡ 0 =
-    omega (arith, once all b.address good1, total-append (at_address b.address) heap.blocks new, brings (at_address b.address), subst (λ bs. 1 ≤ total (at_address b.address) bs) (sym s.all) (has_one b s.before s.behind)) in
+    let none = none_new_at heap new own b good fresh brings there in
     let away : AllByRecursion (λ c. c.address ≡ w.after.address → ⊥) own = subst (λ a. AllByRecursion (λ c. c.address ≡ a → ⊥) own) (sym w.same_address) (none_at_address b.address own none) in
     subst (λ bs. AllIn bs own) (sym (ap (λ bs. with_writes bs writes) behind ∙ w.now)) (still_all all w.after own (new_there heap new own brings) away)

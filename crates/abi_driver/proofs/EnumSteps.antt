@@ -1,5 +1,5 @@
 -- Enums become words, and words become enums; they are stored and loaded.
-use Rattle.std.proofs.Common.{◌≡◌, ℕ, suc, ◌%◌, ◌^◌, ◌<◌, ◌≤◌, nat_lt, Bool, pos, ℤ, List, [], ◌∷◌, ◌++◌, length, Contains, refl, sym, ap, ◌∙◌, subst, arith}
+use Rattle.std.proofs.Common.{◌≡◌, ℕ, suc, ◌%◌, ◌^◌, ◌<◌, ◌≤◌, nat_lt, Bool, pos, ℤ, List, [], ◌∷◌, ◌++◌, length, Contains, refl, sym, ap, ◌∙◌, subst, arith, true}
 use Rattle.std.proofs.lemmas.Bool.{cond-true, lt-ltb}
 use Rattle.std.specs.Int.{w32, cast_signed}
 use Rattle.wit_model.specs.declared.name.TypeId.{TypeId}
@@ -28,7 +28,7 @@ use Rattle.abi_bindgen.specs.HasList.{IsKindOf}
 use Rattle.abi_bindgen.specs.Instructions.{Emits}
 use Rattle.abi_bindgen.specs.Laws.{Adds, After, At, Facts, Sound, core_data, ofs}
 use Rattle.abi_bindgen.specs.Lifts.{LiftsFlat, OneStands, took}
-use Rattle.abi_driver.specs.Loads.{Gets, LiftsFromMemory}
+use Rattle.abi_driver.specs.Loads.{LiftsFromMemory}
 use Rattle.abi_bindgen.specs.Lowers.{LowersFlat}
 use Rattle.abi_bindgen.specs.Meaning.{Meaning, item, of, word}
 use Rattle.abi_bindgen.specs.NumberTouches.{tag_load, tag_store}
@@ -36,7 +36,7 @@ use Rattle.abi_bindgen.specs.Parts.{count}
 use Rattle.abi_bindgen.specs.Places.{IsWritten}
 use Rattle.abi_driver.specs.Stores.{LowersToMemory, Puts}
 use Rattle.abi_bindgen.specs.Touches.{reached}
-use Rattle.abi_bindgen.proofs.BareCases.{bare_holds, bare_settled, case_below, count_bare, no_slots, none_held, none_said, number_ranged, tree_count}
+use Rattle.abi_bindgen.proofs.BareCases.{bare_holds, bare_settled, case_below, count_bare, no_slots, none_held, none_said, number_ranged, tree_count, bare_asks}
 use Rattle.abi_driver.proofs.Tags.{bare_extent, tag_grain_small, tag_is, tag_kept, tag_loaded}
 use Rattle.abi_bindgen.proofs.EnumLowers.{enum_cases}
 use Rattle.abi_driver.proofs.LiftSteps.{follows_done}
@@ -51,7 +51,9 @@ use Rattle.abi_driver.proofs.PutSteps.{puts_plainly}
 use Rattle.wrapper_meaning.specs.AsWords.{Says}
 use Rattle.wit_layout.specs.Sizes.{elem_size}
 use Rattle.wrapper_meaning.specs.Layout.{layout}
-use Rattle.wrapper_meaning.specs.Requests.{block_for, case_requests}
+use Rattle.wrapper_meaning.specs.Requests.{block_for, case_requests, requests, room_for}
+use Rattle.abi_driver.proofs.TakeSteps.{GetsPlainly, gets_plainly}
+use Rattle.abi_bindgen.specs.Lifting.{Gets}
 
 module _ {Self Operand : Type 0} (m : Meaning Self Operand) (sound : Sound m) (types : List TypeDef) where
   -- 1. Core words
@@ -62,7 +64,7 @@ module _ {Self Operand : Type 0} (m : Meaning Self Operand) (sound : Sound m) (t
   -- a word of which the tag is the number of a case becomes an enum of that case
   enum_made : {A : Type 0} (members : List A) (a b : Self) (o r : Operand) → LiftsEnum m (bare members) (o ∷ []) (r ∷ []) a b → (v : Case (bare members)) (own : List Block) (z : ℤ) → own ≡ []
       → tag_of (count (bare members)) (core.I32 z) ≡ case_number (bare members) v → (w : m.World) (f : Peer m.Item) (others : Facts m) (s0 st : m.State) → At m w f a b (of o (word (core.I32 z)) ∷ others) s0 st
-      → Gets m (OneStands m (cases (bare members)) v own) own (r ∷ []) b w f others s0 st
+      → GetsPlainly m (OneStands m (cases (bare members)) v) own (r ∷ []) b w f others s0 st
   enum_made members a b o r row v own z empty is w f others s0 st at =
       let ts = bare members in
       let k = count ts in
@@ -85,10 +87,17 @@ module _ {Self Operand : Type 0} (m : Meaning Self Operand) (sound : Sound m) (t
         },
       )
 
+  -- an enum asks for no room
+  plainly_enum : {A : Type 0} (members : List A) (v : Case (bare members)) (own : List Block) (rs : List Operand) (new : Self) (w : m.World) (f : Peer m.Item) (others : Facts m) (s0 s : m.State) → is_heap (m.account s).heap ≡ true
+      → GetsPlainly m (OneStands m (cases (bare members)) v) own rs new w f others s0 s → Gets m (OneStands m (cases (bare members)) v) own (requests m.width room_for (cases (bare members)) v) rs new w f others s0 s
+  plainly_enum members v own rs new w f others s0 s formed h =
+      subst (λ due. Gets m (OneStands m (cases (bare members)) v) own due rs new w f others s0 s) (sym (bare_asks m.width room_for members v)) (gets_plainly m (OneStands m (cases (bare members)) v) own rs new w f others s0 s formed h)
+
   enum_lifts_row : {A : Type 0} (members : List A) (a b : Self) (o r : Operand) → length members ≤ 2 ^ 31 → Adds m a b → LiftsEnum m (bare members) (o ∷ []) (r ∷ []) a b → LiftsFlat m (cases (bare members)) (o ∷ []) r a b
   enum_lifts_row members a b o r most adds row = record {
     adds = adds;
     fits = sym (ap (λ cs. suc (length cs)) (no_slots members));
+    asks_nothing = bare_asks m.width room_for members;
     row = λ v ws own listed says w f others s0 st at may.
         let ts = bare members in
         let n = case_number ts v in
@@ -98,8 +107,7 @@ module _ {Self Operand : Type 0} (m : Meaning Self Operand) (sound : Sound m) (t
         let alone : says.0 ≡ [] = subst (λ cs. AreWords m.width cs says.0) (no_slots members) says.2 in
         let is_word : ws ≡ core.I32 (pos n) ∷ [] = says.1 ∙ ap (λ zs. core.I32 (pos n) ∷ zs) alone in
         let at1 : At m w f a b (of o (word (core.I32 (pos n))) ∷ others) s0 st = record { serves = at.serves; done = at.done; holds = subst (λ zs. m.denotes w a (ofs m (o ∷ []) (core_data m zs) ++ others) st) is_word at.holds } in
-        let made = enum_made members a b o r row v own (pos n) (none_said m.width take members v says.0 own says.3) (tag_is (count ts) n below bound) w f others s0 st at1 in
-        (made.0, made.2, made.1, made.3, made.4);
+        plainly_enum members v own (r ∷ []) b w f others s0 st may.formed (enum_made members a b o r row v own (pos n) (none_said m.width take members v says.0 own says.3) (tag_is (count ts) n below bound) w f others s0 st at1);
   }
 
   pub enum_lifts : (id : TypeId) (members : List Member) (a b : Self) (o r : Operand) → IsKindOf types id.0 (kind.Enum members) → length members ≤ 2 ^ 31 → Emits m types (EnumLift id) (o ∷ []) (r ∷ []) a b
@@ -162,6 +170,7 @@ module _ {Self Operand : Type 0} (m : Meaning Self Operand) (sound : Sound m) (t
       → LiftsEnum m (bare members) (x ∷ []) (r ∷ []) b c → LiftsFromMemory m (cases (bare members)) address offset r a c
   enum_loads members a b c address x r offset e adds row = record {
     adds = adds_both m a b c (number_load_adds m sound types (discriminant_grain (length members)) offset (address ∷ []) (x ∷ []) a b e) adds;
+    asks_nothing = bare_asks m.width room_for members;
     row = λ v own listed w f others s0 st q k blk at room holds may.
         let g = discriminant_grain (length members) in
         let ts = bare members in
@@ -176,7 +185,8 @@ module _ {Self Operand : Type 0} (m : Meaning Self Operand) (sound : Sound m) (t
         let at2 : At m w f b c (of x (word (core.I32 (cast_signed w32 (n % 2 ^ 32)))) ∷ others) s0 s1 = record { serves = at.serves; done = one.1; holds = after1.denotes } in
         let is : tag_of (count ts) (core.I32 (cast_signed w32 (n % 2 ^ 32))) ≡ n = ap (λ j. tag_of j (core.I32 (cast_signed w32 (n % 2 ^ 32)))) (count_bare members) ∙ tag_loaded (length members) n has.0 in
         let two = enum_made members b c x r row v own (cast_signed w32 (n % 2 ^ 32)) (none_held m.width take members v blk _ own holds.1) is w f others s0 s1 at2 in
-        let after2 = two.4 in (
+        let after2 = two.4 in
+        plainly_enum members v own (r ∷ []) c w f others s0 st room.formed (
           two.0,
           two.1,
           two.2,

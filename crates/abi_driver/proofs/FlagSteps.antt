@@ -31,7 +31,7 @@ use Rattle.abi_bindgen.specs.FlagSets.{AreFlags, LiftsFlags}
 use Rattle.abi_bindgen.specs.Instructions.{Emits}
 use Rattle.abi_bindgen.specs.Laws.{Adds, At, Facts, Sound, core_data, ofs}
 use Rattle.abi_bindgen.specs.Lifts.{LiftsFlat, OneStands, took}
-use Rattle.abi_driver.specs.Loads.{Gets, LiftsFromMemory}
+use Rattle.abi_driver.specs.Loads.{LiftsFromMemory}
 use Rattle.abi_bindgen.specs.Lowers.{LowersFlat}
 use Rattle.abi_bindgen.specs.Meaning.{Meaning, item, of, word}
 use Rattle.abi_driver.specs.Stores.{LowersToMemory}
@@ -47,6 +47,7 @@ use Rattle.abi_bindgen.proofs.LoweredPlainly.{passed_plainly}
 use Rattle.abi_driver.proofs.PutSteps.{puts_plainly}
 use Rattle.wit_layout.specs.Sizes.{elem_size}
 use Rattle.wrapper_meaning.specs.Layout.{layout}
+use Rattle.abi_driver.proofs.TakeSteps.{GetsPlainly, gets_plainly}
 
 -- 1. How many words there are, and how many bytes each has
 
@@ -119,7 +120,7 @@ place_of offset n = beyond offset (word_place n)
 module _ {Self Operand : Type 0} (m : Meaning Self Operand) (sound : Sound m) (types : List TypeDef) where
   -- words become flags that they say
   flags_made : (n : ℕ) (a b : Self) (os : List Operand) (r : Operand) → LiftsFlags m n os (r ∷ []) a b → (v : ℕ) (ws : List Word) (own : List Block) → own ≡ [] → Says m.width take (flags n) v ws []
-      → (w : m.World) (f : Peer m.Item) (others : Facts m) (s0 st : m.State) → At m w f a b (ofs m os (core_data m ws) ++ others) s0 st → Gets m (OneStands m (flags n) v own) own (r ∷ []) b w f others s0 st
+      → (w : m.World) (f : Peer m.Item) (others : Facts m) (s0 st : m.State) → At m w f a b (ofs m os (core_data m ws) ++ others) s0 st → GetsPlainly m (OneStands m (flags n) v) own (r ∷ []) b w f others s0 st
   flags_made n a b os r row v ws own empty says w f others s0 st at =
       let ran = row ws (words_typed m.width (words_of_flags n) ws says.0) w f others s0 st at in
       let t = ran.0 in
@@ -140,9 +141,9 @@ module _ {Self Operand : Type 0} (m : Meaning Self Operand) (sound : Sound m) (t
   flags_lifts id n a b os r is len e = record {
     adds = e.adds;
     fits = len ∙ sym (length_words n);
+    asks_nothing = λ v. refl;
     row = λ v ws own listed says w f others s0 st at may.
-        let made = flags_made n a b os r (e.row n is) v ws own says.2 (says.0, says.1, refl) w f others s0 st at in
-        (made.0, made.2, made.1, made.3, made.4);
+        gets_plainly m (OneStands m (flags n) v) own (r ∷ []) b w f others s0 st may.formed (flags_made n a b os r (e.row n is) v ws own says.2 (says.0, says.1, refl) w f others s0 st at);
   }
 
   -- 5. Memory
@@ -199,6 +200,7 @@ module _ {Self Operand : Type 0} (m : Meaning Self Operand) (sound : Sound m) (t
       → LoadedOn m types (flags_extent n).grain (place_of offset) address 0 rs a b → Adds m b c → LiftsFlags m n rs (r ∷ []) b c → LiftsFromMemory m (flags n) address offset r a c
   flags_loads n a b c address r rs offset many loaded adds row = record {
     adds = adds_both m a b c (loaded_adds m sound types (flags_extent n).grain (flags_grain_small n) (place_of offset) address 0 rs a b loaded) adds;
+    asks_nothing = λ v. refl;
     row = λ v own listed w f others s0 st q k blk at room holds may.
         let g = (flags_extent n).grain in
         let small = flags_grain_small n in
@@ -214,7 +216,8 @@ module _ {Self Operand : Type 0} (m : Meaning Self Operand) (sound : Sound m) (t
         let says : Says m.width take (flags n) v ws [] = (are_words m.width (flag_words n) ws (one.3 ∙ many) one.4, holds.2 ∙ ap (λ x. x % 2 ^ n) (sym one.5), refl) in
         let at2 : At m w f b c (rest ++ others) s0 s1 = record { serves = at.serves; done = one.2; holds = sound.fewer w b pointer (rest ++ others) s1 (sound.swap w b rest pointer others s1 after1.denotes) } in
         let two = flags_made n b c rs r row v ws own holds.3 says w f others s0 s1 at2 in
-        let after2 = two.4 in (
+        let after2 = two.4 in
+        gets_plainly m (OneStands m (flags n) v) own (r ∷ []) c w f others s0 st room.formed (
           two.0,
           two.1,
           two.2,

@@ -11,9 +11,9 @@ use Rattle.wrapper_meaning.specs.Direction.{give}
 use Rattle.wrapper_meaning.specs.InMemory.{TextHolds}
 use Rattle.wrapper_meaning.specs.Items.{AllIn}
 use Rattle.abi_bindgen.specs.Account.{Account, Done, Got, Outcome, is_at, is_taken}
-use Rattle.abi_bindgen.specs.Frees.{MayFree, by_freeing, without_blocks}
+use Rattle.abi_bindgen.specs.Frees.{MayFree, by_freeing}
 use Rattle.abi_bindgen.specs.Lifts.{AreFree, MayTake}
-use Rattle.abi_bindgen.specs.Memory.{except, freed, freeing}
+use Rattle.abi_bindgen.specs.Memory.{except, freed, freeing, without_blocks}
 use Rattle.abi_bindgen.proofs.AllLemmas.{all_left, all_right}
 use Rattle.abi_bindgen.proofs.Taken.{last_taken}
 use Rattle.abi_driver.proofs.Storing.{find_block}
@@ -93,10 +93,10 @@ freed_both {V} xs ys acc =
 -- 3. What may be freed after some was
 
 -- whoever has no owner among some has none among fewer
-abbrev IsFewer : (more less : List ℕ) → Type 0
+abbrev pub IsFewer : (more less : List ℕ) → Type 0
 IsFewer more less = (a : ℕ) → is_taken a more ≡ false → is_taken a less ≡ false
 
-free_fewer : (blocks : List Block) (more less : List ℕ) → IsFewer more less → AreFree blocks more → AreFree blocks less
+pub free_fewer : (blocks : List Block) (more less : List ℕ) → IsFewer more less → AreFree blocks more → AreFree blocks less
 free_fewer [] more less fewer free = tt
 free_fewer (b ∷ blocks) more less fewer free =
     let last : List ℕ = b.address ∷ [] in
@@ -106,7 +106,7 @@ free_fewer (b ∷ blocks) more less fewer free =
     (fewer b.address free.0, free_fewer blocks (more ++ last) (less ++ last) still free.1)
 
 -- blocks without owners are not at an address that has one
-away_from : (blocks : List Block) (a : ℕ) (taken : List ℕ) → is_taken a taken ≡ true → AreFree blocks taken → AllByRecursion (λ c. c.address ≡ a → ⊥) blocks
+pub away_from : (blocks : List Block) (a : ℕ) (taken : List ℕ) → is_taken a taken ≡ true → AreFree blocks taken → AllByRecursion (λ c. c.address ≡ a → ⊥) blocks
 away_from [] a taken has free = tt
 away_from (c ∷ blocks) a taken has free =
     let still : is_taken a (taken ++ c.address ∷ []) ≡ true = list_any-append (λ t. nat_eq t a) taken (c.address ∷ []) ∙ ap (λ t. t || is_taken a (c.address ∷ [])) has in

@@ -41,16 +41,16 @@ use Rattle.abi_bindgen.specs.declared.instruction.Instruction.TheVariants.{CallW
 use Rattle.abi_bindgen.specs.Account.{Account, Call, Done, Follows, Got, Outcome, Peer, Reply, Stopped, Stuck, account_in, addresses, gives, have_types, value, words}
 use Rattle.abi_bindgen.specs.Area.{AreFor, SameArea}
 use Rattle.abi_bindgen.specs.Calls.{call_point, calling, import_params, import_results, recorded}
-use Rattle.abi_bindgen.specs.Frees.{nowhere}
+use Rattle.abi_bindgen.specs.Frees.{nowhere, MayFree}
 use Rattle.abi_driver.specs.Imports.{CallsImport, Given, GivesBack, IsHonest, Lent, LoadsAnswer, PassesArguments, PassesValues, Points, PointsAtResult, ReadsAnswer, ResultStands, point_of}
 use Rattle.abi_bindgen.specs.Instructions.{Emits, shapes_of}
 use Rattle.abi_bindgen.specs.Laws.{Adds, After, At, Facts, Grows, Quiet, Sound, core_data, item_data, ofs}
-use Rattle.abi_bindgen.specs.Lifts.{LiftsAnswer, MayTake, by_taking, took}
+use Rattle.abi_bindgen.specs.Lifts.{LiftsAnswer, MayTake, by_taking, took, OneStands}
 use Rattle.abi_bindgen.specs.Meaning.{Meaning, of, word}
 use Rattle.abi_bindgen.specs.Touches.{reached}
 use Rattle.abi_bindgen.specs.Code.{passed_count}
 use Rattle.abi_bindgen.specs.WordCount.{word_counts}
-use Rattle.abi_driver.proofs.AreaHeaps.{IsInside, contains_last, may_take_answered, silent_there, written_there}
+use Rattle.abi_driver.proofs.AreaHeaps.{IsInside, contains_last, may_take_answered, silent_there, written_there, none_at_address, none_new_at}
 use Rattle.abi_driver.proofs.AreaSteps.{Names, ResultPointed, needs_for_parameters, needs_for_result, points_blocks, points_grows, result_pointed}
 use Rattle.abi_bindgen.proofs.Done.{does_done}
 use Rattle.abi_driver.proofs.HonestAnswers.{AnswerSays, answer_typed, in_words}
@@ -58,6 +58,9 @@ use Rattle.abi_bindgen.proofs.Runs.{adds_both, adds_same, addresses_both, core_a
 use Rattle.abi_bindgen.proofs.SaysTypes.{parts_typed, types_both}
 use Rattle.abi_driver.proofs.TakingOver.{took_none}
 use Rattle.wrapper_meaning.proofs.PostReturn.{total-append}
+use Rattle.abi_driver.proofs.TakeSteps.{got_plainly}
+use Rattle.wrapper_meaning.specs.Requests.{requests, room_for}
+use Rattle.wrapper_meaning.proofs.HeapBlocks.{at_address}
 
 abbrev no_words : List Word
 no_words = []
@@ -252,8 +255,8 @@ module _ {Self Operand : Type 0} (m : Meaning Self Operand) (sound : Sound m) wh
       let at1 = subst (λ x. At m w f b x (ofs m os (core_data m ws) ++ others) s0 s) h.1 at in
       subst (λ xs. Lifted None u own xs c w f others s0 s) (sym h.0) (subst (λ x. Lifted None u own [] x w f others s0 s) (sym h.1) (no_answer u os ws own b w f others s0 s says.0 says.1 at1))
   answer_lifted (Some t) os rs b c h u ws own good says w f others s0 s at may =
-      let ran = h.2.row u ws own good says w f others s0 s at may in
-      subst (λ xs. Lifted (Some t) u own xs c w f others s0 s) (sym h.1) (record { state = ran.0; done = ran.1; vals = ran.2; stands = ran.3; after = ran.4 })
+      let ran = got_plainly m (OneStands m t u) own (h.0 ∷ []) c w f others s0 s (requests m.width room_for t u) (h.2.asks_nothing u) (h.2.row u ws own good says w f others s0 s at may) in
+      subst (λ xs. Lifted (Some t) u own xs c w f others s0 s) (sym h.1) (record { state = ran.0; done = ran.2; vals = ran.1; stands = ran.3; after = ran.4 })
 
   -- what was answered in the area is loaded from there
   loaded_adds : (t : Shape) (pointer rs : List Operand) (b c : Self) → LoadsAnswer m t pointer rs b c → Adds m b c
@@ -275,20 +278,20 @@ module _ {Self Operand : Type 0} (m : Meaning Self Operand) (sound : Sound m) wh
   -- the record is read from the block in which it begins
   record_loaded : (t : Shape) (pointer rs : List Operand) (b c : Self) → LoadsAnswer m t pointer rs b c → (u : Value t) (own : List Block) (blk : Block) → IsListed t u → Begins m.width take t u blk own
       → (w : m.World) (p : Peer m.Item) (others : Facts m) (s0 s : m.State) → is_heap (m.account s).heap ≡ true → Contains (m.account s).heap.blocks blk
-      → At m w p b c (ofs m pointer (core_data m (core.Pointer blk.address ∷ [])) ++ others) s0 s → MayTake own (m.account s) → Lifted (Some t) u own rs c w p others s0 s
+      → At m w p b c (ofs m pointer (core_data m (core.Pointer blk.address ∷ [])) ++ others) s0 s → MayFree own blk (m.account s) → Lifted (Some t) u own rs c w p others s0 s
   record_loaded t pointer rs b c h u own blk listed begins w p others s0 s formed there at may =
       let q = blk.address in
       let o = h.0 in
       let fit = begins.room in
       let at1 : At m w p b c (of o (word (core.Pointer q)) ∷ others) s0 s = subst (λ os. At m w p b c (ofs m os (core_data m (core.Pointer q ∷ [])) ++ others) s0 s) h.2 at in
-      let ran = h.4.row u own listed w p others s0 s q 0 blk at1
+      let ran = got_plainly m (OneStands m t u) own (h.1 ∷ []) c w p others s0 s (requests m.width room_for t u) (h.4.asks_nothing u) (h.4.row u own listed w p others s0 s q 0 blk at1
       (record {
         formed = formed;
         there = there;
         starts = omega arith;
         fits = omega (arith, fit);
         aligned = subst (λ n. n % alignment m.width (layout t) ≡ 0) (let start : q ≡ reached m q nowhere = omega arith in start) begins.aligned;
-      }) begins.holds may in
+      }) begins.holds may) in
       subst (λ xs. Lifted (Some t) u own xs c w p others s0 s) (sym h.3) (record { state = ran.0; done = ran.2; vals = ran.1; stands = ran.3; after = ran.4 })
 
   -- a peer that is honest wrote the record into the block that the call's last word names
@@ -321,7 +324,7 @@ module _ {Self Operand : Type 0} (m : Meaning Self Operand) (sound : Sound m) wh
 
   answer_loaded : (r : Option Shape) (pointer back rs : List Operand) (b c : Self) → is_indirect r ≡ true → ReadsAnswer m r pointer back rs b c → (u : Result r) (own : List Block) (blk : Block) → IsListedResult r u → RecordBegins r u blk own
       → (w : m.World) (p : Peer m.Item) (others : Facts m) (s0 s : m.State) → is_heap (m.account s).heap ≡ true → Contains (m.account s).heap.blocks blk
-      → At m w p b c (ofs m pointer (core_data m (core.Pointer blk.address ∷ [])) ++ others) s0 s → MayTake own (m.account s) → Lifted r u own rs c w p others s0 s
+      → At m w p b c (ofs m pointer (core_data m (core.Pointer blk.address ∷ [])) ++ others) s0 s → MayFree own blk (m.account s) → Lifted r u own rs c w p others s0 s
   answer_loaded None pointer back rs b c many h = absurd (let g = many in cc)
   answer_loaded (Some t) pointer back rs b c many h =
       record_loaded t pointer rs b c (subst (λ q. MatchBool q (LoadsAnswer m t pointer rs b c) (LiftsAnswer m (Some t) back rs b c)) many h)
@@ -579,7 +582,12 @@ module _ {Self Operand : Type 0} (m : Meaning Self Operand) (sound : Sound m) wh
           let facts : m.denotes w d (ofs m pointer (core_data m (core.Pointer from.block.address ∷ [])) ++ others) ac.state =
           subst (λ ps. m.denotes w d (ofs m pointer (core_data m ps) ++ others) ac.state) (c.2 ∙ ap (λ n. core.Pointer n ∷ []) (sym from.at))
           (subst (λ fs. m.denotes w d (fs ++ (pointer_facts ++ others)) ac.state) (ap (λ xs. ofs m back (core_data m xs)) none ∙ ofs_none m back) ac.after.denotes) in
-          let lifted = answer_loaded r pointer back given d e many reads u honest.represents.blocks from.block honest.good from.holds w p others s0 ac.state formed_then live (record { serves = serves_e; done = ac.done; holds = facts }) (may_take u honest fit there) in
+          let none_here = none_new_at call.heap honest.new honest.represents.blocks c.0 call_formed honest.represents.fresh honest.represents.brings (contains_last gave c.0 call.heap.blocks kept) in
+          let may : MayFree honest.represents.blocks from.block (m.account ac.state) = record {
+            may = may_take u honest fit there;
+            others = none_at_address from.block.address honest.represents.blocks (subst (λ a. total (at_address a) honest.represents.blocks ≡ 0) (sym from.at) none_here);
+          } in
+          let lifted = answer_loaded r pointer back given d e many reads u honest.represents.blocks from.block honest.good from.holds w p others s0 ac.state formed_then live (record { serves = serves_e; done = ac.done; holds = facts }) may in
           ends u honest fit honest.represents.blocks (λ g. sym (honest.represents.brings g)) lifted
 
       gives_back : (u : Result r) → (honest : IsHonest m.width r u p.reply call) → GivesBack m w p r u call honest z others s0 s

@@ -25,10 +25,10 @@ use Rattle.wrapper_meaning.proofs.Lists.{some_same}
 use Rattle.wrapper_meaning.proofs.PartPlaces.{aligned_part}
 use Rattle.abi_bindgen.specs.declared.instruction.Instruction.{Instruction}
 use Rattle.abi_bindgen.specs.declared.instruction.Instruction.TheVariants.{LengthLoad, PointerLoad}
-use Rattle.abi_bindgen.specs.Account.{Done, Peer, addresses}
+use Rattle.abi_bindgen.specs.Account.{Done, Peer}
 use Rattle.abi_bindgen.specs.Instructions.{Emits, IsSendable, Makes, RowBy, RowTouch, lifted_scalar, lifting, lowered_scalar}
 use Rattle.abi_bindgen.specs.Laws.{Adds, At, Facts, Sound, core_data, ofs}
-use Rattle.abi_bindgen.specs.Lifts.{LiftsFlat, MayTake, took}
+use Rattle.abi_bindgen.specs.Lifts.{LiftsFlat, MayTake, OneStands}
 use Rattle.abi_driver.specs.Loads.{LiftsFromMemory}
 use Rattle.abi_bindgen.specs.Meaning.{Meaning, of, word}
 use Rattle.abi_bindgen.specs.Memory.{loading, word_read}
@@ -42,6 +42,7 @@ use Rattle.abi_bindgen.proofs.Runs.{adds_both}
 use Rattle.abi_driver.proofs.ScalarsInMemory.{load_access, load_grain, loaded_scalar, scalar_alignment, scalar_size, store_access}
 use Rattle.abi_driver.proofs.Storing.{loads_from}
 use Rattle.wrapper_meaning.proofs.PostReturn.{total-append}
+use Rattle.abi_driver.proofs.TakeSteps.{stays_gets}
 
 -- 1. Which load a scalar's is
 
@@ -124,6 +125,7 @@ module _ {Self Operand : Type 0} (m : Meaning Self Operand) (sound : Sound m) (t
   scalar_at : (s : Scalar) (a b c : Self) (address x r : Operand) (offset : ArchitectureSize) → Adds m a b → LoadsWord m (load_access s) offset (address ∷ []) (x ∷ []) a b → LiftsFlat m (scalar s) (x ∷ []) r b c → LiftsFromMemory m (scalar s) address offset r a c
   scalar_at s a b c address x r offset adds load flat = record {
     adds = adds_both m a b c adds flat.adds;
+    asks_nothing = flat.asks_nothing;
     row = λ v own listed w f others s0 st q k blk at room holds may.
         let acc = m.account st in
         let la = load_access s in
@@ -137,18 +139,8 @@ module _ {Self Operand : Type 0} (m : Meaning Self Operand) (sound : Sound m) (t
         let s1 = one.0 in
         let after1 = one.2.2 in
         let at2 : At m w f b c (ofs m (x ∷ []) (core_data m (y ∷ [])) ++ others) s0 s1 = record { serves = at.serves; done = one.1; holds = subst (λ fs. m.denotes w b (fs ++ others) s1) one.2.1 after1.denotes } in
-        let two = flat.row v (y ∷ []) own listed (y, refl, loaded_scalar m.width s v listed, holds.1) w f others s0 s1 at2 (subst (MayTake own) (sym after1.account) may) in
-        let after2 = two.4 in (
-          two.0,
-          two.2,
-          two.1,
-          two.3,
-          record {
-            account = after2.account ∙ ap (took own) after1.account;
-            owns = λ g. omega (arith, after1.owns g, after2.owns g, total-append g (m.owns two.0) [], total-append g (m.owns s1) [], total-append g (m.owns st) [], total-append g (m.owns s1) (addresses own), total-append g (m.owns st) (addresses own));
-            denotes = after2.denotes;
-          },
-        );
+        stays_gets m (OneStands m (scalar s) v) own (r ∷ []) c w f others s0 st s1 [] after1.account after1.owns
+        (flat.row v (y ∷ []) own listed (y, refl, loaded_scalar m.width s v listed, holds.1) w f others s0 s1 at2 (subst (MayTake own) (sym after1.account) may.may));
   }
 
   pub scalar_loads : (ty : WitType) (load : Instruction) (offset : ArchitectureSize) (a b c : Self) (address x r : Operand) → scalar_load ty offset ≡ Some load → Emits m types load (address ∷ []) (x ∷ []) a b
@@ -212,22 +204,13 @@ module _ {Self Operand : Type 0} (m : Meaning Self Operand) (sound : Sound m) (t
       → Emits m types (LengthLoad behind) (address ∷ []) (n ∷ []) b c → LiftsFlat m text (x ∷ n ∷ []) r c d → LiftsFromMemory m text address offset r a d
   text_loads a b c d address x n r offset behind further pointers lengths flat = record {
     adds = adds_both m a b d pointers.adds (adds_both m b c d lengths.adds flat.adds);
+    asks_nothing = flat.asks_nothing;
     row = λ v own listed w f others s0 st q k blk at room holds may.
         let at1 : At m w f a c (of address (word (core.Pointer q)) ∷ others) s0 st = record { serves = flat.adds.grows.serves w at.serves; done = at.done; holds = at.holds } in
         let one = text_words take a b c address x n offset behind further pointers lengths v own w f others s0 st q k blk at1 room holds in
         let at2 : At m w f c d (ofs m (x ∷ n ∷ []) (core_data m one.2) ++ others) s0 one.0 = record { serves = at.serves; done = one.1; holds = one.6 } in
-        let two = flat.row v one.2 own listed one.3 w f others s0 one.0 at2 (subst (MayTake own) (sym one.4) may) in
-        let after = two.4 in (
-          two.0,
-          two.2,
-          two.1,
-          two.3,
-          record {
-            account = after.account ∙ ap (took own) one.4;
-            owns = λ g. omega (arith, one.5 g, after.owns g, total-append g (m.owns two.0) [], total-append g (m.owns one.0) (addresses own), total-append g (m.owns st) (addresses own));
-            denotes = after.denotes;
-          },
-        );
+        stays_gets m (OneStands m text v) own (r ∷ []) d w f others s0 st one.0 [] one.4 (λ g. omega (arith, one.5 g, total-append g (m.owns one.0) [], total-append g (m.owns st) []))
+        (flat.row v one.2 own listed one.3 w f others s0 one.0 at2 (subst (MayTake own) (sym one.4) may.may));
   }
 
 -- 4. The instruction that lifts a scalar may be sent, and has one result

@@ -14,6 +14,7 @@ pub mod Instances
 pub mod ImportSteps
 pub mod ReturnSteps
 pub mod SaysLength
+pub mod TakeSteps
 pub mod TakingOver
 pub mod Tags
 pub mod Bytes
@@ -24,6 +25,7 @@ pub mod LeafLoads
 pub mod LeafStores
 pub mod LoadSteps
 pub mod NumberWords
+pub mod LiftedHeaps
 pub mod LowPlaces
 pub mod WordBytes
 pub mod PartOffsets

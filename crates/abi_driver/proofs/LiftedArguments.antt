@@ -1,5 +1,5 @@
 -- Arguments become values, one after another: the words of each are read and lifted.
-use Rattle.std.proofs.Common.{◌≡◌, ℕ, suc, ◌+◌, ◌≤◌, List, [], ◌∷◌, ◌++◌, length, drop, min, refl, sym, ap, ◌∙◌, subst, arith, append_assoc, append-nil}
+use Rattle.std.proofs.Common.{◌≡◌, ℕ, suc, ◌+◌, ◌≤◌, List, [], ◌∷◌, ◌++◌, length, drop, min, refl, sym, ap, ◌∙◌, subst, arith, append_assoc, append-nil, ap₂}
 use Rattle.std.proofs.lemmas.List.{drop_all, length-append}
 use Rattle.std.proofs.Math.Nat.{min-le_right}
 use Rattle.wit_model.specs.declared.types.TypeDef.{TypeDef}
@@ -16,18 +16,19 @@ use Rattle.wrapper_meaning.specs.Settled.{all_settled}
 use Rattle.wrapper_meaning.specs.Shape.{Shape, Shapes, shape_of}
 use Rattle.wrapper_meaning.specs.Shape.Shapes.{none, more}
 use Rattle.wrapper_meaning.proofs.LayoutIsTree.{layout_is_tree}
-use Rattle.abi_bindgen.specs.Account.{addresses}
 use Rattle.abi_driver.specs.Exports.{ReadsWords}
 use Rattle.abi_bindgen.specs.Instructions.{shapes_of}
 use Rattle.abi_bindgen.specs.Laws.{Adds, At, Facts, Sound, Stays, args, core_data, ofs}
-use Rattle.abi_bindgen.specs.Lifts.{LiftsArguments, LiftsFlat, MayTake, OneStands, TakesOver, took}
+use Rattle.abi_bindgen.specs.Lifts.{LiftsArguments, LiftsFlat, MayTake, OneStands, TakesOver}
 use Rattle.abi_bindgen.specs.Meaning.{Meaning}
 use Rattle.abi_bindgen.specs.Parts.{PartsStand}
 use Rattle.abi_driver.proofs.LiftSteps.{none_lifts, takes_both}
 use Rattle.abi_driver.proofs.ReadSteps.{args_both}
 use Rattle.abi_bindgen.proofs.Runs.{adds_both, adds_same}
 use Rattle.abi_driver.proofs.SaysLength.{says_length}
-use Rattle.wrapper_meaning.proofs.PostReturn.{total-append}
+use Rattle.abi_driver.proofs.TakeSteps.{stays_gets}
+use Rattle.wrapper_meaning.specs.Requests.{part_requests, requests, room_for}
+use Rattle.wrapper_data.specs.declared.choice.Request.{Request}
 
 -- what lifts the arguments from one on, with what was lifted before it, lifts all
 abbrev pub Rest : {Self Operand : Type 0} (m : Meaning Self Operand) → List TypeDef → List WitType → (i first : ℕ) → List Operand → (a b : Self) → Type 0
@@ -35,32 +36,21 @@ Rest {Self} {Operand} m types tys i first values a b = (new : Self) (later : Lis
 
 module _ {Self Operand : Type 0} (m : Meaning Self Operand) (sound : Sound m) (types : List TypeDef) where
   -- code that changes nothing but what operands denote, and code that takes over
-  reads_then : (Stand : List m.Item → Type 0) (ins mid : Facts m) (own : List Block) (rs : List Operand) (a b c : Self) → Adds m b c → Stays m a b ins (λ fs. fs ≡ mid) → TakesOver m Stand mid own rs b c → TakesOver m Stand ins own rs a c
-  reads_then Stand ins mid own rs a b c adds first later w f others s0 s at may =
+  reads_then : (Stands : List m.Item → List Block → Type 0) (ins mid : Facts m) (blocks : List Block) (due : List Request) (rs : List Operand) (a b c : Self) → Adds m b c → Stays m a b ins (λ fs. fs ≡ mid) → TakesOver m Stands mid blocks due rs b c → TakesOver m Stands ins blocks due rs a c
+  reads_then Stands ins mid blocks due rs a b c adds first later w f others s0 s at may =
       let one = first w f others s0 s (record { serves = adds.grows.serves w at.serves; done = at.done; holds = at.holds }) in
       let t = one.0 in
       let after1 = one.2.2 in
       let at2 : At m w f b c (mid ++ others) s0 t = record { serves = at.serves; done = one.1; holds = subst (λ fs. m.denotes w b (fs ++ others) t) one.2.1 after1.denotes } in
-      let two = later w f others s0 t at2 (subst (λ acc. MayTake own acc) (sym after1.account) may) in
-      let u = two.0 in
-      let after2 = two.4 in (
-        u,
-        two.1,
-        two.2,
-        two.3,
-        record {
-          account = after2.account ∙ ap (took own) after1.account;
-          owns = λ g. omega (arith, after1.owns g, after2.owns g, total-append g (m.owns u) [], total-append g (m.owns t) (addresses own), total-append g (m.owns t) [], total-append g (m.owns s) [], total-append g (m.owns s) (addresses own));
-          denotes = after2.denotes;
-        },
-      )
+      stays_gets m Stands blocks rs c w f others s0 s t due after1.account after1.owns (later w f others s0 t at2 (subst (λ acc. MayTake blocks acc) (sym after1.account) may))
 
   no_arguments : (first : ℕ) (a : Self) → LiftsArguments m none first [] a a
   no_arguments first a = record {
     adds = adds_same m a;
     many = refl;
+    asks_nothing = λ v. refl;
     row = λ v ws own listed says.
-        let P : List Word → Type 0 = λ xs. TakesOver m (λ vals. PartsStand m take none v vals own) (args m first (core_data m xs)) own [] a a in
+        let P : List Word → Type 0 = λ xs. TakesOver m (PartsStand m take none v) (args m first (core_data m xs)) own [] [] a a in
         subst P (sym says.0) ((none_lifts m sound types a).row v [] own tt (refl, says.1));
   }
 
@@ -69,6 +59,7 @@ module _ {Self Operand : Type 0} (m : Meaning Self Operand) (sound : Sound m) (t
   argument_and t ts first n a b c d os o values reads flat later = record {
     adds = adds_both m a b d reads.adds (adds_both m b c d flat.adds later.adds);
     many = ap suc later.many;
+    asks_nothing = λ v. ap₂ (λ xs ys. xs ++ ys) (flat.asks_nothing v.0) (later.asks_nothing v.1);
     row = λ v ws own listed says.
         let ws1 = says.0 in
         let ws2 = says.1 in
@@ -77,8 +68,8 @@ module _ {Self Operand : Type 0} (m : Meaning Self Operand) (sound : Sound m) (t
         let xs : Facts m = args m first (core_data m ws1) in
         let ys : Facts m = args m (first + n) (core_data m ws2) in
         let len : length ws1 ≡ n = says_length m.width take t v.0 ws1 own1 listed.0 says.4 ∙ sym flat.fits ∙ reads.fits in
-        let P : Facts m → List Block → Type 0 = λ ins bs. TakesOver m (λ vals. PartsStand m take (more t ts) (all_settled (more t ts) v) vals bs) ins bs (o ∷ values) a d in
-        let one = reads_then (OneStands m t v.0 own1) xs (ofs m os (core_data m ws1)) own1 (o ∷ []) a b c flat.adds (reads.row ws1 len) (flat.row v.0 ws1 own1 listed.0 says.4) in
+        let P : Facts m → List Block → Type 0 = λ ins bs. TakesOver m (PartsStand m take (more t ts) (all_settled (more t ts) v)) ins bs (part_requests m.width room_for (more t ts) v) (o ∷ values) a d in
+        let one = reads_then (OneStands m t v.0) xs (ofs m os (core_data m ws1)) own1 (requests m.width room_for t v.0) (o ∷ []) a b c flat.adds (reads.row ws1 len) (flat.row v.0 ws1 own1 listed.0 says.4) in
         let both = takes_both m sound types t ts v xs ys own1 own2 a c d o values later.adds one (later.row v.1 ws2 own2 listed.1 says.5) in
         subst (λ ins. P ins own) (sym (args_both m sound types first n ws ws1 ws2 says.6 len)) (subst (P (xs ++ ys)) (sym says.7) both);
   }

@@ -1,5 +1,5 @@
 -- Values are loaded: parts, one after another, and what is made of them.
-use Rattle.std.proofs.Common.{◌≡◌, ℕ, ◌+◌, ◌%◌, ◌^◌, ◌≤◌, List, [], ◌∷◌, ◌++◌, length, drop, take, refl, sym, ap, ◌∙◌, subst, arith, append_assoc, append-nil}
+use Rattle.std.proofs.Common.{◌≡◌, ℕ, ◌+◌, ◌%◌, ◌^◌, ◌≤◌, List, [], ◌∷◌, ◌++◌, length, drop, take, refl, sym, ap, ◌∙◌, subst, arith, append_assoc, append-nil, ap₂, false}
 use Rattle.std.proofs.lemmas.List.{drop_all}
 use Rattle.wit_model.specs.Size.{bytes_at}
 use Rattle.wit_model.specs.declared.name.TypeId.{TypeId}
@@ -23,20 +23,27 @@ use Rattle.wrapper_meaning.specs.Shape.Shapes.{none, more}
 use Rattle.wrapper_meaning.specs.Value.{Parts, Value}
 use Rattle.wrapper_meaning.proofs.PartPlaces.{aligned_part, grain_of_first, grain_of_rest, less_grain, place_aligned, place_behind}
 use Rattle.abi_bindgen.specs.declared.instruction.Instruction.TheVariants.{RecordLift, TupleLift}
-use Rattle.abi_bindgen.specs.Account.{Account, Peer, addresses}
+use Rattle.abi_bindgen.specs.Account.{Peer, addresses}
 use Rattle.abi_bindgen.specs.Instructions.{Emits, IsRecord, field_shapes, shapes_of}
 use Rattle.abi_bindgen.specs.Laws.{Adds, At, Facts, Sound, item_data, ofs}
-use Rattle.abi_bindgen.specs.Lifts.{MayTake, took}
-use Rattle.abi_driver.specs.Loads.{Gets, LiftsFromMemory, LoadsParts}
+use Rattle.abi_bindgen.specs.Lifts.{took, OneStands}
+use Rattle.abi_driver.specs.Loads.{LiftsFromMemory, LoadsParts}
 use Rattle.abi_bindgen.specs.Meaning.{Meaning, item, of, word}
-use Rattle.abi_bindgen.specs.Parts.{LiftsParts, count}
+use Rattle.abi_bindgen.specs.Parts.{LiftsParts, count, PartsStand}
 use Rattle.abi_bindgen.specs.Places.{HasRoom, HavePlaces}
 use Rattle.abi_bindgen.specs.Touches.{reached}
-use Rattle.abi_driver.proofs.LiftSteps.{stand_count}
-use Rattle.abi_bindgen.proofs.Runs.{adds_both, adds_same, addresses_both}
-use Rattle.abi_driver.proofs.TakingOver.{may_first, may_rest, took_both, took_none}
-use Rattle.wrapper_meaning.proofs.PostReturn.{total-append}
+use Rattle.abi_driver.proofs.LiftSteps.{owns_and, whole_made}
+use Rattle.abi_bindgen.proofs.Runs.{adds_both, adds_same}
+use Rattle.abi_driver.proofs.TakingOver.{took_none}
 use Rattle.wit_layout.proofs.RecordSteps.{end_behind, record_behind}
+use Rattle.abi_bindgen.specs.Early.{HasAsked}
+use Rattle.abi_bindgen.specs.Lifting.{Lifted, LiftedBy, Gets}
+use Rattle.abi_bindgen.proofs.EarlyLemmas.{comes_more, comes_on}
+use Rattle.abi_driver.proofs.LiftedHeaps.{asked_by_lifting, lifted_and, may_free_later, stays_later}
+use Rattle.abi_driver.proofs.TakeSteps.{gets_plainly, gets_stay}
+use Rattle.wrapper_meaning.specs.Requests.{part_requests, requests, room_for}
+use Rattle.abi_bindgen.specs.Frees.{MayFree}
+use Rattle.abi_driver.proofs.Freeing.{free_first}
 
 module _ {Self Operand : Type 0} (m : Meaning Self Operand) (types : List TypeDef) where
   -- where the parts from one on begin
@@ -52,7 +59,8 @@ module _ {Self Operand : Type 0} (m : Meaning Self Operand) (sound : Sound m) (t
   pub none_loads : (address : Operand) (offset : ArchitectureSize) (behind : ℕ) (a : Self) → LoadsParts m none address offset behind [] a a
   none_loads address offset behind a = record {
     adds = adds_same m a;
-    row = λ v own listed w f others s0 s q k b at places holds may. (
+    asks_nothing = λ v. refl;
+    row = λ v own listed w f others s0 s q k b at places holds may. gets_plainly m (PartsStand m taking_over none (all_settled none v)) own [] a w f others s0 s places.formed (
       s,
       [],
       at.done,
@@ -71,10 +79,13 @@ module _ {Self Operand : Type 0} (m : Meaning Self Operand) (sound : Sound m) (t
       → LoadsParts m ts address offset (place (extent_of m.width (layout t)) behind + elem_size m.width (layout t)) parts b c → LoadsParts m (more t ts) address offset behind (r ∷ parts) a c
   more_loads t ts behind a b c r parts address offset first_offset is first later = record {
     adds = adds_both m a b c first.adds later.adds;
-    row = λ v own listed w f others s0 s q k blk at places holds may.
+    asks_nothing = λ v. ap₂ (λ xs ys. xs ++ ys) (first.asks_nothing v.0) (later.asks_nothing v.1);
+    row = λ v blocks listed w f others s0 s q k blk at places holds may.
         let acc = m.account s in
-        let own1 = holds.0 in
-        let own2 = holds.1 in
+        let one = holds.0 in
+        let two = holds.1 in
+        let due1 = requests m.width room_for t v.0 in
+        let due2 = part_requests m.width room_for ts v.1 in
         let e = extent_of m.width (layout t) in
         let es = extents_of m.width (layouts ts) in
         let here = place e behind in
@@ -93,46 +104,42 @@ module _ {Self Operand : Type 0} (m : Meaning Self Operand) (sound : Sound m) (t
           fits = omega (arith, places.fits, ends);
           aligned = subst (λ n. n % alignment m.width (layout t) ≡ 0) (sym reach) (aligned_part base here (greatest (e ∷ es)).grain e.grain places.aligned (grain_of_first e es) (place_aligned e behind));
         } in
-        let may1 : MayTake (own1 ++ own2) acc = subst (λ bs. MayTake bs acc) holds.4 may in
-        let one = first.row v.0 own1 listed.0 w f (pointer ++ others) s0 s q (k + here) blk at1 room holds.2 (may_first own1 own2 acc may1) in
-        let s1 = one.0 in
-        let x = one.3.0 in
-        let after1 = one.4 in
+        let may1 : MayFree (one ++ two) blk acc = subst (λ bs. MayFree bs blk acc) holds.4 may in
+        let First : m.State → Type 0 = Lifted m (OneStands m t v.0) one due1 (r ∷ []) w b (pointer ++ others) s in
+        let Whole : m.State → Type 0 = Lifted m (PartsStand m taking_over (more t ts) (all_settled (more t ts) v)) blocks (due1 ++ due2) (r ∷ parts) w c others s in
+        comes_on false due1 due2 m.account acc (m.does w f (m.code b) s0) (m.does w f (m.code c) s0) First Whole (later.adds.grows.stops w f s0 at.serves)
+        (comes_more false due1 acc (m.does w f (m.code b) s0) First (λ s1. HasAsked due1 acc (m.account s1) × First s1) (first.row v.0 one listed.0 w f (pointer ++ others) s0 s q (k + here) blk at1 room holds.2 (free_first one two blk acc may1))
+        (λ s1 d got. (asked_by_lifting got.lifted.gone got.own due1 acc (m.account s1) got.lifted.account, got)))
+        (λ s1 done got.
+        let x = got.stands.0 in
         let loaded : Facts m = of r (item x) ∷ [] in
-        let facts : m.denotes w b (loaded ++ (pointer ++ others)) s1 = subst (λ vs. m.denotes w b (ofs m (r ∷ []) (item_data m vs) ++ (pointer ++ others)) s1) one.3.1 after1.denotes in
-        let at2 : At m w f b c (of address (word (core.Pointer q)) ∷ (loaded ++ others)) s0 s1 = record { serves = at.serves; done = one.2; holds = sound.swap w b loaded pointer others s1 facts } in
-        let places1 : HavePlaces m.width ts next base blk k acc.heap = record {
-          formed = places.formed;
-          there = places.there;
+        let facts : m.denotes w b (loaded ++ (pointer ++ others)) s1 = subst (λ vs. m.denotes w b (ofs m (r ∷ []) (item_data m vs) ++ (pointer ++ others)) s1) got.stands.1 got.denotes in
+        let at2 : At m w f b c (of address (word (core.Pointer q)) ∷ (loaded ++ others)) s0 s1 = record { serves = at.serves; done = done; holds = sound.swap w b loaded pointer others s1 facts } in
+        let places1 : HavePlaces m.width ts next base blk k (m.account s1).heap = record {
+          formed = got.lifted.formed;
+          there = stays_later one two got.own due1 blk acc (m.account s1) got.lifted may1 places.there;
           starts = places.starts;
           fits = places.fits;
           aligned = less_grain base (greatest (e ∷ es)).grain (greatest es).grain places.aligned (grain_of_rest e es);
         } in
-        let places2 = subst (λ (z : Account m.Item). HavePlaces m.width ts next base blk k z.heap) (sym after1.account) places1 in
-        let may2 : MayTake own2 (m.account s1) = subst (MayTake own2) (sym after1.account) (may_rest own1 own2 acc may1) in
-        let two = later.row v.1 own2 listed.1 w f (loaded ++ others) s0 s1 q k blk at2 places2 holds.3 may2 in
-        let u = two.0 in
-        let after2 = two.4 in (
-          u,
-          x ∷ two.1,
-          two.2,
-          (x, two.1, own1, own2, refl, one.3.2, two.3, holds.4),
-          record {
-            account = after2.account ∙ ap (took own2) after1.account ∙ took_both own1 own2 acc ∙ ap (λ bs. took bs acc) (sym holds.4);
-            owns = λ g.
-                let all : total g (addresses own) ≡ total g (addresses own1) + total g (addresses own2) = ap (λ bs. total g (addresses bs)) holds.4 ∙ ap (total g) (addresses_both own1 own2) ∙ total-append g (addresses own1) (addresses own2) in
-                omega (arith, all, after1.owns g, after2.owns g, total-append g (m.owns u) [], total-append g (m.owns s1) [], total-append g (m.owns s1) (addresses own2), total-append g (m.owns s) (addresses own1), total-append g (m.owns s) (addresses own));
-            denotes = sound.swap w c (ofs m parts (item_data m two.1)) loaded others u after2.denotes;
-          },
-        );
+        comes_more false due2 (m.account s1) (m.does w f (m.code c) s0) (Lifted m (PartsStand m taking_over ts (all_settled ts v.1)) two due2 parts w c (loaded ++ others) s1) Whole
+        (later.row v.1 two listed.1 w f (loaded ++ others) s0 s1 q k blk at2 places1 holds.3 (may_free_later one two got.own due1 blk acc (m.account s1) got.lifted may1))
+        (λ u d more_got. record {
+          vals = x ∷ more_got.vals;
+          own = got.own ++ more_got.own;
+          stands = (x, more_got.vals, got.own, more_got.own, refl, got.stands.2, more_got.stands, refl);
+          lifted = subst (λ bs. LiftedBy bs (got.own ++ more_got.own) (due1 ++ due2) acc (m.account u)) (sym holds.4) (lifted_and one two got.own more_got.own due1 due2 acc (m.account s1) (m.account u) got.lifted more_got.lifted);
+          owns = owns_and (m.owns s) (m.owns s1) (m.owns u) got.own more_got.own got.owns more_got.owns;
+          denotes = sound.swap w c (ofs m parts (item_data m more_got.vals)) loaded others u more_got.denotes;
+        }));
   }
 
   -- what a value becomes of its parts
   parts_row : (ts : Shapes) (t : Shape) (whole : Parts ts → Value t) (a b c : Self) (parts : List Operand) (address r : Operand) (offset : ArchitectureSize) → layout t ≡ layout (fields ts) → LoadsParts m ts address offset 0 parts a b → Adds m b c
-      → LiftsParts m ts t whole parts (r ∷ []) b c → (v : Parts ts) (own : List Block) → AreListed ts v → (w : m.World) (f : Peer m.Item) (others : Facts m) (s0 s : m.State) (q k : ℕ) (blk : Block)
-      → At m w f a c (of address (word (core.Pointer q)) ∷ others) s0 s → HasRoom m.width t (reached m q offset) blk k (m.account s).heap → PartsHold m.width taking_over ts v 0 blk k own → MayTake own (m.account s)
-      → Gets m (λ vals. (x : m.Item) × (vals ≡ x ∷ []) × m.stands taking_over t (whole (all_settled ts v)) x own) own (r ∷ []) c w f others s0 s
-  parts_row ts t whole a b c parts address r offset same first adds row v own listed w f others s0 s q k blk at room holds may =
+      → LiftsParts m ts t whole parts (r ∷ []) b c → (v : Parts ts) (blocks : List Block) → AreListed ts v → (w : m.World) (f : Peer m.Item) (others : Facts m) (s0 s : m.State) (q k : ℕ) (blk : Block)
+      → At m w f a c (of address (word (core.Pointer q)) ∷ others) s0 s → HasRoom m.width t (reached m q offset) blk k (m.account s).heap → PartsHold m.width taking_over ts v 0 blk k blocks → MayFree blocks blk (m.account s)
+      → Gets m (λ vals own. (x : m.Item) × (vals ≡ x ∷ []) × m.stands taking_over t (whole (all_settled ts v)) x own) blocks (part_requests m.width room_for ts v) (r ∷ []) c w f others s0 s
+  parts_row ts t whole a b c parts address r offset same first adds row v blocks listed w f others s0 s q k blk at room holds may =
       let es = extents_of m.width (layouts ts) in
       let size : elem_size m.width (layout t) ≡ (record_extent es).bytes = ap (elem_size m.width) same in
       let places : HavePlaces m.width ts 0 (reached m q offset) blk k (m.account s).heap = record {
@@ -143,30 +150,16 @@ module _ {Self Operand : Type 0} (m : Meaning Self Operand) (sound : Sound m) (t
         aligned = subst (λ l. reached m q offset % alignment m.width l ≡ 0) same room.aligned;
       } in
       let at1 : At m w f a b (of address (word (core.Pointer q)) ∷ others) s0 s = record { serves = adds.grows.serves w at.serves; done = at.done; holds = at.holds } in
-      let one = first.row v own listed w f others s0 s q k blk at1 places holds may in
-      let s1 = one.0 in
-      let vals = one.1 in
-      let after1 = one.4 in
-      let at2 : At m w f b c (ofs m parts (item_data m vals) ++ others) s0 s1 = record { serves = at.serves; done = one.2; holds = after1.denotes } in
-      let two = row vals (stand_count m sound types ts (all_settled ts v) vals own one.3) w f others s0 s1 at2 in
-      let u = two.0 in
-      let is = two.2.1 in
-      let after2 = two.2.2 in (
-        u,
-        is.0 ∷ [],
-        two.1,
-        (is.0, refl, is.2 (all_settled ts v) own one.3),
-        record {
-          account = after2.account ∙ after1.account;
-          owns = λ g. omega (arith, after1.owns g, after2.owns g, total-append g (m.owns u) [], total-append g (m.owns s1) [], total-append g (m.owns s) (addresses own));
-          denotes = subst (λ fs. m.denotes w c (fs ++ others) u) is.1 after2.denotes;
-        },
-      )
+      let Parted = PartsStand m taking_over ts (all_settled ts v) in
+      gets_stay m Parted (λ vals own. (x : m.Item) × (vals ≡ x ∷ []) × m.stands taking_over t (whole (all_settled ts v)) x own) blocks (part_requests m.width room_for ts v) parts (r ∷ []) b c w f others s0 s
+      (adds.grows.stops w f s0 at.serves) (first.row v blocks listed w f others s0 s q k blk at1 places holds may)
+      (λ t1 done got. whole_made m sound types ts t whole b c parts r row (all_settled ts v) got.vals got.own got.stands w f others s0 t1 (record { serves = at.serves; done = done; holds = got.denotes }))
 
   pub record_loads : (id : TypeId) (members : List Field) (a b c : Self) (parts : List Operand) (address r : Operand) (offset : ArchitectureSize) → IsRecord types id.0 members → LoadsParts m (field_shapes types members) address offset 0 parts a b
       → Emits m types (RecordLift id) parts (r ∷ []) b c → LiftsFromMemory m (fields (field_shapes types members)) address offset r a c
   record_loads id members a b c parts address r offset is first e = record {
     adds = adds_both m a b c first.adds e.adds;
+    asks_nothing = first.asks_nothing;
     row = parts_row (field_shapes types members) (fields (field_shapes types members)) (λ v. v) a b c parts address r offset refl first e.adds (e.row members is);
   }
 
@@ -174,6 +167,7 @@ module _ {Self Operand : Type 0} (m : Meaning Self Operand) (sound : Sound m) (t
       → Emits m types (TupleLift n) parts (r ∷ []) b c → LiftsFromMemory m (tuple ts) address offset r a c
   tuple_loads n ts a b c parts address r offset is first e = record {
     adds = adds_both m a b c first.adds e.adds;
+    asks_nothing = first.asks_nothing;
     row = parts_row ts (tuple ts) (λ v. v) a b c parts address r offset refl first e.adds (e.row ts is);
   }
 

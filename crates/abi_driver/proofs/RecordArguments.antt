@@ -28,7 +28,7 @@ use Rattle.wrapper_meaning.specs.Value.{Parts}
 use Rattle.wrapper_meaning.proofs.Lists.{some_same}
 use Rattle.abi_bindgen.specs.Account.{Account, Done, Got, Outcome, Peer, addresses, failing, is_at, is_taken, stay}
 use Rattle.abi_driver.specs.Exports.{TakesArgumentsOver, TakesRecordOver, TookOver}
-use Rattle.abi_bindgen.specs.Frees.{nowhere}
+use Rattle.abi_bindgen.specs.Frees.{nowhere, MayFree}
 use Rattle.abi_bindgen.specs.Laws.{Adds, At, Facts, Sound, args, core_data, item_data, ofs}
 use Rattle.abi_bindgen.specs.Lifts.{AreFree, LiftsArguments, MayTake, took}
 use Rattle.abi_bindgen.specs.Meaning.{Meaning, arg, item, of, word}
@@ -46,6 +46,9 @@ use Rattle.abi_bindgen.proofs.Runs.{adds_both}
 use Rattle.abi_driver.proofs.Storing.{find_block}
 use Rattle.wrapper_meaning.proofs.PostReturn.{total-append}
 use Rattle.wit_layout.proofs.RecordSteps.{record_behind}
+use Rattle.abi_driver.proofs.TakeSteps.{got_plainly}
+use Rattle.wrapper_meaning.specs.Requests.{part_requests, room_for}
+use Rattle.abi_driver.proofs.LiftedHeaps.{may_inner}
 
 -- 1. Blocks that nobody owns
 
@@ -128,8 +131,8 @@ module _ {Self Operand : Type 0} (m : Meaning Self Operand) (sound : Sound m) (t
     many = lifts.many;
     row = λ w p us ws blocks others s0 s listed represents may at.
         let says : PartsSay m.width take ts us ws blocks = subst (λ q. MatchBool q (TakesRecord m.width ts us ws blocks) (PartsSay m.width take ts us ws blocks)) few represents in
-        let one = lifts.row us ws blocks listed says w p others s0 s at may in
-        record { vals = one.2; own = blocks; stands = one.3; heap = (m.account s).heap; formed = may.formed; kept = λ g. refl; state = one.0; done = one.1; after = one.4 };
+        let one = got_plainly m (PartsStand m take ts (all_settled ts us)) blocks values c w p others s0 s (part_requests m.width room_for ts us) (lifts.asks_nothing us) (lifts.row us ws blocks listed says w p others s0 s at may) in
+        record { vals = one.1; own = blocks; stands = one.3; heap = (m.account s).heap; formed = may.formed; kept = λ g. refl; state = one.0; done = one.2; after = one.4 };
   }
 
   -- 4. A record
@@ -150,13 +153,8 @@ module _ {Self Operand : Type 0} (m : Meaning Self Operand) (sound : Sound m) (t
       abbrev argument : Facts m
       argument = arg 0 (word (core.Pointer blk.address)) ∷ []
 
-      may_inner : MayTake inner (m.account s)
-      may_inner = record {
-        formed = may.formed;
-        there = may.there.1;
-        free = free_where_less inner ((m.account s).taken ++ blk.address ∷ []) (m.account s).taken
-            (λ n e. (or_parts (is_taken n (m.account s).taken) (is_taken n (blk.address ∷ [])) (sym (taken_both n (m.account s).taken (blk.address ∷ [])) ∙ e)).0) may.free.1;
-      }
+      may_load : MayFree inner blk (m.account s)
+      may_load = may_inner blk inner (m.account s) may
 
       -- its address is denoted, and the argument still
       record Read : Type 0 where
@@ -203,8 +201,9 @@ module _ {Self Operand : Type 0} (m : Meaning Self Operand) (sound : Sound m) (t
       loaded : Loaded
       loaded =
           let at2 : At m w p h.one h.two (of h.address (word (core.Pointer blk.address)) ∷ (argument ++ others)) s0 read.state = record { serves = later_two.grows.serves w at.serves; done = read.done; holds = read.denotes } in
-          let two = h.loads.row us inner listed w p (argument ++ others) s0 read.state blk.address 0 blk at2
-          (subst (λ (x : Account m.Item). HavePlaces m.width ts 0 (reached m blk.address nowhere) blk 0 x.heap) (sym read.account) places) begins.holds (subst (MayTake inner) (sym read.account) may_inner) in
+          let two = got_plainly m (PartsStand m take ts (all_settled ts us)) inner h.parts h.two w p (argument ++ others) s0 read.state (part_requests m.width room_for ts us) (h.loads.asks_nothing us)
+          (h.loads.row us inner listed w p (argument ++ others) s0 read.state blk.address 0 blk at2
+          (subst (λ (x : Account m.Item). HavePlaces m.width ts 0 (reached m blk.address nowhere) blk 0 x.heap) (sym read.account) places) begins.holds (subst (MayFree inner blk) (sym read.account) may_load)) in
           record {
             vals = two.1;
             stands = two.3;

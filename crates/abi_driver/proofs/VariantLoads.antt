@@ -1,5 +1,5 @@
 -- A value with cases is loaded by the blocks of its cases.
-use Rattle.std.proofs.Common.{◌≡◌, ℕ, ◌+◌, ◌^◌, ◌<◌, ◌≤◌, Bool, true, pos, List, [], ◌∷◌, ◌++◌, length, option_to_list, Option, None, Some, refl, sym, ap, ap₂, ◌∙◌, subst, arith}
+use Rattle.std.proofs.Common.{◌≡◌, ℕ, ◌+◌, ◌^◌, ◌<◌, ◌≤◌, Bool, true, pos, List, [], ◌∷◌, ◌++◌, length, option_to_list, Option, None, Some, refl, sym, ap, ap₂, ◌∙◌, subst, arith, false}
 use Rattle.std.specs.List.{flat_map, slice_get}
 use Rattle.std.proofs.lemmas.List.{length-map}
 use mathlib.Core.Logic.{inl, inr}
@@ -29,31 +29,30 @@ use Rattle.wrapper_meaning.specs.Shape.Shape.{cases}
 use Rattle.wrapper_meaning.specs.Shape.Shapes.{none, more}
 use Rattle.wrapper_meaning.specs.Value.{Case, case_number}
 use Rattle.wrapper_meaning.proofs.PostReturn.{total-append}
-use Rattle.abi_bindgen.specs.Account.{Account, Done, Peer, addresses}
-use Rattle.abi_bindgen.specs.Arms.{arms, gives_payload, matching}
+use Rattle.abi_bindgen.specs.Account.{Account, Done, Peer, addresses, Follows}
+use Rattle.abi_bindgen.specs.Arms.{arms, gives_payload, Armed}
 use Rattle.abi_bindgen.specs.Blocks.{owned_datum}
 use Rattle.abi_driver.specs.FinishedBlocks.{HasPayloadRoom}
 use Rattle.abi_bindgen.specs.Cases.{IsPayload, PayloadStands, payloads_of, result_counts}
 use Rattle.abi_bindgen.specs.Code.{at_payload, beyond, load_code, blocks_of_cases}
 use Rattle.abi_bindgen.specs.Instructions.{Emits, case_lifting, has_cases}
-use Rattle.abi_bindgen.specs.Laws.{At, Facts, Sound, ofs}
-use Rattle.abi_bindgen.specs.Lifts.{MayTake, OneStands, took}
-use Rattle.abi_driver.specs.LoadedCases.{LoadsCases, payload_data}
-use Rattle.abi_driver.specs.Loads.{Gets, LiftsFromMemory}
-use Rattle.abi_bindgen.specs.Meaning.{Meaning, item, of, word}
+use Rattle.abi_bindgen.specs.Laws.{At, Facts, Sound, ofs, Data}
+use Rattle.abi_bindgen.specs.Lifts.{OneStands}
+use Rattle.abi_driver.specs.LoadedCases.{LoadsCases}
+use Rattle.abi_driver.specs.Loads.{LiftsFromMemory}
+use Rattle.abi_bindgen.specs.Meaning.{Meaning, item, of, word, Ended, with_nothing}
 use Rattle.abi_bindgen.specs.NumberTouches.{number_load, tag_load}
 use Rattle.abi_bindgen.specs.Parts.{count}
 use Rattle.abi_bindgen.specs.Touches.{reached}
 use Rattle.abi_bindgen.specs.Flow.{Flow, emit, both, ◌>>>◌}
 use Rattle.abi_bindgen.specs.Flows.{Flows}
 use Rattle.abi_bindgen.proofs.BareCases.{read_number}
-use Rattle.abi_driver.proofs.ArmSteps.{arm_runs, number_settled, went}
+use Rattle.abi_driver.proofs.ArmSteps.{number_settled, went, arm_comes, arm_is, fitting}
 use Rattle.abi_driver.proofs.Tags.{tag_grain_small}
 use Rattle.abi_bindgen.proofs.CaseLowers.{number_below}
 use Rattle.abi_driver.proofs.CaseInstructions.{LiftsBy, case_serves, lifts_by}
 use Rattle.abi_driver.proofs.CaseRooms.{case_room, count_layouts, payload_room}
-use Rattle.abi_driver.proofs.CaseSteps.{arms_are, arms_gone, front_only, plain_total, resumes_then}
-use Rattle.abi_driver.proofs.LiftSteps.{follows_done}
+use Rattle.abi_driver.proofs.CaseSteps.{arms_are, arms_gone, front_only, resumes_then}
 use Rattle.abi_driver.proofs.MemoryCode.{cases_place, load_variant_code}
 use Rattle.abi_driver.proofs.PartOffsets.{payload_offset_of, payload_sent}
 use Rattle.abi_driver.proofs.RecordPlaces.{place_told}
@@ -61,32 +60,38 @@ use Rattle.abi_bindgen.proofs.Payloads.{count_payloads, variant_shape}
 use Rattle.abi_driver.proofs.NumberWords.{number_load_adds, number_loaded}
 use Rattle.abi_bindgen.proofs.Runs.{adds_both}
 use Rattle.abi_bindgen.proofs.FlowSteps.{flows_as, flows_then, flows_both}
+use Rattle.abi_bindgen.specs.Early.{Comes}
+use Rattle.abi_bindgen.specs.Lifting.{Gets, Lifted, LiftedBy}
+use Rattle.abi_bindgen.specs.CaseBlocks.{GavePayload}
+use Rattle.wrapper_meaning.specs.Requests.{case_requests, room_for}
+use Rattle.abi_bindgen.specs.Frees.{MayFree}
+use Rattle.abi_driver.proofs.TakeSteps.{stays_gets}
+use Rattle.abi_bindgen.specs.Turns.{Arrives, Went}
+use Rattle.std.proofs.lemmas.Bool.{cond-true}
 
 module _ {Self Operand : Type 0} (m : Meaning Self Operand) (sound : Sound m) where
   -- 1. What an arm gives
 
-  data_is_payload : (payload : Option m.Item) → IsPayload m (payload_data m payload) payload
-  data_is_payload None = tt
-  data_is_payload (Some a) = refl
-
-  data_fits : (payload : Option m.Item) → gives_payload m (payload_data m payload) ≡ true
-  data_fits None = refl
-  data_fits (Some a) = refl
+  fits_payload : (ds : Data m) (payload : Option m.Item) → IsPayload m ds payload → gives_payload m ds ≡ true
+  fits_payload [] None h = refl
+  fits_payload (item a ∷ []) (Some b) h = refl
+  fits_payload _ _ h = absurd h
 
   -- it owns the blocks of the payload
-  data_owns : (ts : Shapes) (c : Case ts) (payload : Option m.Item) (own : List Block) → PayloadStands m take ts c payload own → SameItems (flat_map (owned_datum m) (payload_data m payload)) (addresses own)
-  data_owns none c payload own h g = elim c [ ]
-  data_owns (more t ts) (inl v) None own h g = sym (ap (λ bs. total g (addresses bs)) h.1)
-  data_owns (more t ts) (inl v) (Some a) own h g = omega (arith, sound.owned t v a own h.1 g, total-append g (m.owned a) [])
-  data_owns (more t ts) (inr c) payload own h g = data_owns ts c payload own h g
+  payload_owns : (ts : Shapes) (c : Case ts) (ds : Data m) (payload : Option m.Item) (own : List Block) → IsPayload m ds payload → PayloadStands m take ts c payload own → SameItems (flat_map (owned_datum m) ds) (addresses own)
+  payload_owns none c ds payload own is h g = elim c [ ]
+  payload_owns (more t ts) (inl v) [] None own is h g = sym (ap (λ bs. total g (addresses bs)) h.1)
+  payload_owns (more t ts) (inl v) (item a ∷ []) (Some b) own is h g = omega (arith, sound.owned t v b own h.1 g, total-append g (m.owned a) [], ap (λ x. total g (m.owned x)) is)
+  payload_owns (more t ts) (inr c) ds payload own is h g = payload_owns ts c ds payload own is h g
+  payload_owns (more t ts) (inl v) _ _ own is h g = absurd is
 
   -- 2. Behind the tag: the blocks of all cases, and then the instruction that runs the one of the tag's case
 
   module _ (last_serves : Form → Bool) (results : List ℕ) (ts : Shapes) (b c d : Self) (address x r : Operand) (place : ArchitectureSize) (many : length results ≡ count ts) (loads : LoadsCases m results ts address place b c) (lifts : LiftsBy m last_serves ts x r c d) where
-    blocks_load : (v : Case ts) (own : List Block) → IsListedCase ts v → (w : m.World) (f : Peer m.Item) (others : Facts m) (s0 s : m.State) (q k : ℕ) (blk : Block) → m.serves w d → m.does w f (m.code b) s0 ≡ Done s
+    blocks_load : (v : Case ts) (blocks : List Block) → IsListedCase ts v → (w : m.World) (f : Peer m.Item) (others : Facts m) (s0 s : m.State) (q k : ℕ) (blk : Block) → m.serves w d → m.does w f (m.code b) s0 ≡ Done s
         → m.denotes w b (of x (word (core.I32 (pos (case_number ts v)))) ∷ of address (word (core.Pointer q)) ∷ others) s → HasPayloadRoom (greatest (extents_of m.width (layouts ts))) (reached m q place) blk k (m.account s).heap
-        → CaseHolds m.width take ts v blk k own → MayTake own (m.account s) → Gets m (OneStands m (cases ts) v own) own (r ∷ []) d w f others s0 s
-    blocks_load v own listed w f others s0 s q k blk serves done tag room holds may =
+        → CaseHolds m.width take ts v blk k blocks → MayFree blocks blk (m.account s) → Gets m (OneStands m (cases ts) v) blocks (case_requests m.width room_for ts v) (r ∷ []) d w f others s0 s
+    blocks_load v blocks listed w f others s0 s q k blk serves done tag room holds may =
         let n = case_number ts v in
         let pointer : Facts m = of address (word (core.Pointer q)) ∷ [] in
         let read : Facts m = of x (word (core.I32 (pos n))) ∷ [] in
@@ -101,32 +106,30 @@ module _ {Self Operand : Type 0} (m : Meaning Self Operand) (sound : Sound m) wh
         let body = found.0 in
         let here : slice_get (arms m (count ts) (m.blocks c)) n ≡ Some body = ap (λ bs. slice_get bs n) (arms_are m results loads.bodies b c (count ts) loads.adds many) ∙ found.1 in
         let room1 = subst (λ (z : Account m.Item). HasPayloadRoom (greatest (extents_of m.width (layouts ts))) (reached m q place) blk k z.heap) (sym moved.account) room in
-        let got = found.2 own listed w f c s begin q k blk serves_c known (front_only m sound w c pointer others begin held) room1 holds (subst (MayTake own) (sym moved.account) may) in
-        let payload = got.1 in
-        let gives = got.2 in
-        let ds = payload_data m payload in
-        let armed = arm_runs m (gives_payload m) w f (last_serves f.form) (count ts) (m.blocks c) n begin got.0 body ds (number_below ts v) here gives (data_fits payload) in
-        let last = follows_done m.account (matching m (gives_payload m) w f (last_serves f.form) (count ts) (m.blocks c) (core.I32 (pos n)) begin) (m.does w f (m.code d) s0) _ (went m n ds gives.state) armed ran.2 in
-        let t = last.0 in
-        let arrives = last.2 in
-        let outs = arrives.denotes (gives.denotes c (pointer ++ others) held) in
-        let made = outs.1.0 in
-        let lifted : Facts m = ofs m (r ∷ []) (item made ∷ []) in
+        let due = case_requests m.width room_for ts v in
+        let run = found.2 blocks listed w f c s begin q k blk serves_c known (front_only m sound w c pointer others begin held) room1 holds (subst (MayFree blocks blk) (sym moved.account) may) in
+        let First : Ended m.Item m.State → Type 0 = GavePayload m (PayloadStands m take ts (settled_case ts v)) blocks due w begin in
+        let Whole : m.State → Type 0 = Lifted m (OneStands m (cases ts) v) blocks due (r ∷ []) w d others s in
+        let Behind : Went m (Armed m) → m.State → Type 0 = Arrives m w c d (pointer ++ others) (λ l fs. (y : m.Item) × (fs ≡ ofs m (r ∷ []) (item y ∷ []))
+        × ((k : Case ts) (payload : Option m.Item) (own : List Block) → case_number ts k ≡ l.number → IsPayload m l.results payload → PayloadStands m take ts k payload own → m.stands take (cases ts) k y own)) (λ l. flat_map (owned_datum m) l.results) in
+        let is = arm_is m (gives_payload m) w f (last_serves f.form) (count ts) (m.blocks c) n begin body (number_below ts v) here in
+        let follows = subst (λ z. Follows m.account z (m.does w f (m.code d) s0) Behind) is ran.2 in
+        arm_comes m false due (m.account s) (m.runs w f body with_nothing begin) (m.does w f (m.code d) s0) (fitting m (gives_payload m) n) First Behind Whole
+        (subst (λ z. Comes false due z (m.runs w f body with_nothing begin) First) moved.account run) follows (λ z. went m n z.results z.state)
+        (λ z made. cond-true (gives_payload m z.results) _ _ (fits_payload z.results made.payload made.is))
+        (λ z t made arrives.
+        let outs = arrives.denotes (made.keeps c (pointer ++ others) held) in
+        let one = outs.1.0 in
+        let lifted : Facts m = ofs m (r ∷ []) (item one ∷ []) in
         let facts : m.denotes w d (lifted ++ (pointer ++ others)) t = subst (λ fs. m.denotes w d (fs ++ (pointer ++ others)) t) outs.1.1 outs.2 in
-        let stands = outs.1.2 (settled_case ts v) payload own (number_settled ts v) (data_is_payload payload) got.3 in (
-          t,
-          made ∷ [],
-          last.1,
-          (made, refl, stands),
-          record {
-            account = arrives.account ∙ gives.account ∙ got.4 ∙ ap (took own) moved.account;
-            owns = λ h.
-                let one_more = arrives.owns h ∙ total-append h (m.owns gives.state) (flat_map (owned_datum m) ds) in
-                let before = gives.owns h ∙ sym (plain_total h (m.owns begin)) ∙ moved.owns h in
-                plain_total h (m.owns t) ∙ one_more ∙ ap₂ (λ (x y : ℕ). x + y) before (data_owns ts (settled_case ts v) payload own got.3 h) ∙ sym (total-append h (m.owns s) (addresses own));
-            denotes = sound.fewer w d pointer (lifted ++ others) t (sound.swap w d lifted pointer others t facts);
-          },
-        )
+        record {
+          vals = one ∷ [];
+          own = made.own;
+          stands = (one, refl, outs.1.2 (settled_case ts v) made.payload made.own (number_settled ts v) made.is made.stands);
+          lifted = subst (LiftedBy blocks made.own due (m.account s)) (sym arrives.account) (subst (λ y. LiftedBy blocks made.own due y (m.account z.state)) moved.account made.lifted);
+          owns = λ h. omega (arith, arrives.owns h, made.owns h, moved.owns h, payload_owns ts (settled_case ts v) z.results made.payload made.own made.is made.stands h, total-append h (m.owns s) (addresses made.own), total-append h (m.owns begin) [], total-append h (m.owns z.state) (flat_map (owned_datum m) z.results));
+          denotes = sound.fewer w d pointer (lifted ++ others) t (sound.swap w d lifted pointer others t facts);
+        })
 
     -- 3. With the tag
     module _ (types : List TypeDef) (a : Self) (offset : ArchitectureSize) where
@@ -135,7 +138,8 @@ module _ {Self Operand : Type 0} (m : Meaning Self Operand) (sound : Sound m) wh
       variant_loads most behind e = record {
         adds = adds_both m a b d (number_load_adds m sound types (discriminant_grain (tree_count (layouts ts))) offset (address ∷ []) (x ∷ []) a b e)
             (resumes_then m b c d loads.adds.resumes lifts.grows lifts.quiet lifts.uncalled lifts.asked (lifts.blocks ∙ arms_gone m results loads.bodies b c (count ts) loads.adds many));
-        row = λ v own listed w f others s0 s q k blk at room holds may.
+        asks_nothing = loads.asks_nothing;
+        row = λ v blocks listed w f others s0 s q k blk at room holds may.
             let g = discriminant_grain (tree_count (layouts ts)) in
             let n = case_number ts v in
             let far = payload_offset m.width (layout (cases ts)) in
@@ -153,20 +157,8 @@ module _ {Self Operand : Type 0} (m : Meaning Self Operand) (sound : Sound m) wh
             let same : m.account s1 ≡ m.account s = after1.account in
             let tag = subst (λ z. m.denotes w b (of x (word (core.I32 z)) ∷ (pointer ++ others)) s1) (read_number n few) after1.denotes in
             let room2 = subst (λ (z : Account m.Item). HasPayloadRoom e1 (reached m q place) blk (k + far) z.heap) (sym same) (payload_room g e1 (reached m q offset) (reached m q place) blk k far (m.account s).heap room1) in
-            let two = blocks_load v own listed w f others s0 s1 q (k + far) blk at.serves one.1 tag room2 holds.1 (subst (MayTake own) (sym same) may) in
-            let after2 = two.4 in (
-              two.0,
-              two.1,
-              two.2,
-              two.3,
-              record {
-                account = after2.account ∙ ap (took own) same;
-                owns = λ h.
-                    let before = sym (plain_total h (m.owns s1)) ∙ after1.owns h ∙ plain_total h (m.owns s) in
-                    after2.owns h ∙ total-append h (m.owns s1) (addresses own) ∙ ap (λ (x : ℕ). x + total h (addresses own)) before ∙ sym (total-append h (m.owns s) (addresses own));
-                denotes = after2.denotes;
-              },
-            );
+            stays_gets m (OneStands m (cases ts) v) blocks (r ∷ []) d w f others s0 s s1 (case_requests m.width room_for ts v) same after1.owns
+            (blocks_load v blocks listed w f others s0 s1 q (k + far) blk at.serves one.1 tag room2 holds.1 (subst (MayFree blocks blk) (sym same) may));
       }
 
 module _ {Self Operand : Type 0} (m : Meaning Self Operand) (sound : Sound m) (types : List TypeDef) (down : GoesDown types) (id : TypeId) (entry : TypeDef) (at : slice_get types id.0 ≡ Some entry) (k : TypeDefKind) (has : has_cases k ≡ true) (kind_is : entry.kind ≡ k) where

@@ -22,7 +22,7 @@ use Rattle.wrapper_meaning.specs.Shape.Shape.{cases}
 use Rattle.wrapper_meaning.specs.Value.{case_number}
 use Rattle.wrapper_meaning.proofs.HoldsLocally.{payload_within}
 use Rattle.wrapper_meaning.proofs.PostReturn.{total-append}
-use Rattle.abi_bindgen.specs.Account.{Account, Done, Outcome, Stuck, addresses, then_do, Follows, Stopped}
+use Rattle.abi_bindgen.specs.Account.{Account, Done, Outcome, Stuck, addresses}
 use Rattle.abi_bindgen.specs.Arms.{Armed, arms, gives_words}
 use Rattle.abi_bindgen.specs.Blocks.{owned_datum}
 use Rattle.abi_driver.specs.FinishedBlocks.{HasCaseRoom}
@@ -43,7 +43,6 @@ use Rattle.abi_driver.proofs.CaseInstructions.{LowersBy, lowers_by, lowers_count
 use Rattle.abi_driver.proofs.CaseRooms.{case_room, count_layouts}
 use Rattle.abi_driver.proofs.CaseStores.{owns_blocks}
 use Rattle.abi_driver.proofs.CaseSteps.{arms_are, arms_gone, front_only, resumes_then}
-use Rattle.abi_driver.proofs.LiftSteps.{follows_done}
 use Rattle.abi_driver.proofs.MemoryCode.{cases_place, store_variant_code}
 use Rattle.abi_driver.proofs.PartOffsets.{payload_offset_of, payload_sent}
 use Rattle.abi_driver.proofs.RecordPlaces.{place_told}
@@ -54,24 +53,14 @@ use Rattle.abi_bindgen.specs.Lowering.{Releases, said}
 use Rattle.abi_bindgen.specs.Early.{Comes}
 use Rattle.abi_driver.proofs.PutSteps.{put_as}
 use Rattle.wrapper_meaning.specs.Requests.{block_for, case_requests}
-use Rattle.wrapper_data.specs.declared.choice.Request.{Request}
 use Rattle.wrapper_meaning.specs.Buffer.{Contents}
 use Rattle.wrapper_meaning.specs.InMemory.{CaseHolds, Holds}
 use Rattle.wrapper_meaning.specs.Items.{total}
+use Rattle.abi_driver.proofs.ArmSteps.{arm_comes}
 
 no_items : {A : Type 0} (xs : List A) → length xs ≡ 0 → xs ≡ []
 no_items [] e = refl
 no_items (x ∷ xs) e = absurd (omega (arith, e))
-
--- the block of a case was run, and the code follows it
-arm_done : {Self Operand : Type 0} (m : Meaning Self Operand) {A : Type 0} (due : List Request) (acc : Account m.Item) (q : Outcome m.Item (Ended m.Item m.State)) (o : Outcome m.Item m.State) (go : Ended m.Item m.State → Outcome m.Item A) (First : Ended m.Item m.State → Type 0)
-    (Behind : A → m.State → Type 0) (Whole : m.State → Type 0) → Comes true due acc q First → Follows m.account (then_do q go) o Behind → (result : Ended m.Item m.State → A) → ((e : Ended m.Item m.State) → First e → go e ≡ Done (result e))
-    → ((e : Ended m.Item m.State) (t : m.State) → First e → Behind (result e) t → Whole t) → Comes true due acc o Whole
-arm_done m due acc (Done e) o go First Behind Whole h follows result is last =
-    let r = follows_done m.account (go e) o Behind (result e) (is e h) follows in
-    subst (λ z. Comes true due acc z Whole) (sym r.1) (last e r.0 h r.2)
-arm_done m due acc (Stopped e end) o go First Behind Whole h follows result is last = subst (λ z. Comes true due acc z Whole) (sym follows) h
-arm_done m due acc (Stuck end) o go First Behind Whole h follows result is last = elim h [ ]
 
 module _ {Self Operand : Type 0} (m : Meaning Self Operand) (sound : Sound m) where
   -- the blocks of all cases, and then the instruction that runs the one of the value's case
@@ -114,7 +103,7 @@ module _ {Self Operand : Type 0} (m : Meaning Self Operand) (sound : Sound m) wh
         let Result : Type 0 = Went m (Armed m) in
         let Behind : Result → m.State → Type 0 = Arrives m w b c (pointer ++ others) (λ l fs. fs ≡ ofs m [] l.results) (λ l. flat_map (owned_datum m) l.results) in
         let go : Ended m.Item m.State → Outcome m.Item Result = λ z. if gives_words m z.results then Done (record { result = record { number = n; results = z.results }; state = z.state; account = m.account z.state }) else Stuck (m.account z.state) in
-        arm_done m due (m.account s) (m.runs w f body (with_case m payload) begin) (m.does w f (m.code c) s0) go First Behind Whole
+        arm_comes m true due (m.account s) (m.runs w f body (with_case m payload) begin) (m.does w f (m.code c) s0) go First Behind Whole
         (subst (λ z. Comes true due z (m.runs w f body (with_case m payload) begin) First) moved.account run) ran.2
         (λ z. record { result = record { number = n; results = z.results }; state = z.state; account = m.account z.state })
         (λ z put. ap (λ rs. if gives_words m rs then Done (record { result = record { number = n; results = z.results }; state = z.state; account = m.account z.state }) else Stuck (m.account z.state)) put.results)

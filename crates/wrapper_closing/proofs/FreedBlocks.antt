@@ -1,6 +1,5 @@
 -- Blocks of a heap beside an area may be freed, and they are gone then.
 use Rattle.std.proofs.Common.{◌≡◌, ◌≤◌, ℕ, ◌+◌, true, List, [], ◌∷◌, ◌++◌, Contains, refl, sym, ap, ◌∙◌, subst, arith, append-nil, if◌then◌else◌}
-use Rattle.std.specs.List.{AllByRecursion}
 use Rattle.std.proofs.lemmas.Bool.{eq-eqb}
 use Rattle.wrapper_data.specs.declared.block.Block.{Block}
 use Rattle.wrapper_data.specs.Heap.{is_heap}
@@ -8,9 +7,9 @@ use Rattle.wrapper_data.proofs.FormedHeaps.{formed}
 use Rattle.wrapper_meaning.specs.Items.{SameItems, total}
 use Rattle.wrapper_meaning.proofs.HeapBlocks.{all_in_heap, at_address, at_most_one}
 use Rattle.abi_bindgen.specs.Account.{Account, is_at}
-use Rattle.abi_bindgen.specs.Frees.{MayFree, by_freeing, without_blocks}
+use Rattle.abi_bindgen.specs.Frees.{MayFree, by_freeing}
 use Rattle.abi_bindgen.specs.Lifts.{AreFree, MayTake}
-use Rattle.abi_bindgen.specs.Memory.{except}
+use Rattle.abi_bindgen.specs.Memory.{except, without_blocks}
 use Rattle.abi_driver.proofs.Freeing.{may_after}
 use Rattle.abi_driver.proofs.HonestAnswers.{free_once}
 use Rattle.abi_driver.proofs.Replaced.{block_formed}
