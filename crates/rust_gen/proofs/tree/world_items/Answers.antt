@@ -11,7 +11,7 @@ use Rattle.type_sites.specs.Sites.{type_sites}
 use Rattle.type_sites.proofs.SitesDefined.{sites-can-be-defined}
 use Rattle.rust_gen.specs.Asking.{ExportAsks, asked_order, asking_items, bare}
 use Rattle.rust_gen.specs.Exported.{last_macro}
-use Rattle.rust_gen.specs.Known.{CanWriteFunctions, HaveCode}
+use Rattle.rust_gen.specs.Known.{CanWriteFunctions, CanWriteTypes, HaveCode}
 use Rattle.rust_gen.specs.Runtime.{runtime_items}
 use Rattle.rust_gen.proofs.OwnNames.{exports-can-be-written, imports-can-be-written}
 use Rattle.rust_gen.proofs.OrderLemmas.{exports-written, imports-written, order-made, serves-order}
@@ -28,7 +28,7 @@ definitions_of-requires c = (
 
 pub push_wrappers-requires-clause-types : goal.push_wrappers-requires-clause-types
 push_wrappers-requires-clause-types c =
-    let known = record {
+    let known : CanWriteTypes c.args.resolve.now c.args.id = record {
       sized = c.requires.sized;
       opts = type_opts c.args.opts.now;
       world = c.args.world.now;
